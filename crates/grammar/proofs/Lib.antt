@@ -1,0 +1,17 @@
+pub mod Walks
+pub mod Leads
+pub mod Finishes
+pub mod Classes
+pub mod Rows
+pub mod Parts
+pub mod Nested
+pub mod Tags
+pub mod Comments
+pub mod Content
+pub mod Instructions
+pub mod Sections
+pub mod Declarations
+pub mod Doctypes
+pub mod Cuts
+pub mod Bangs
+pub mod Commented

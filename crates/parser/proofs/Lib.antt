@@ -1,0 +1,3 @@
+pub mod Machines
+pub mod Firsts
+pub mod Feeds
