@@ -1,0 +1,4 @@
+mod Table
+pub mod Judged
+mod States
+mod Loop
