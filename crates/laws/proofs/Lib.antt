@@ -1,0 +1,3 @@
+pub mod Gathers
+pub mod Reports
+pub mod Agrees

@@ -1,0 +1,2 @@
+pub mod QuickXml
+pub mod Answers

@@ -1,0 +1,5 @@
+pub mod Pieces
+pub mod Cuts
+pub mod Unseen
+pub mod Calls
+pub mod Awaits

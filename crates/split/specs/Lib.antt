@@ -1,0 +1,4 @@
+pub mod Piece
+pub mod Lawful
+pub mod Reads
+pub mod Awaits
