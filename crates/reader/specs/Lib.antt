@@ -1,0 +1,4 @@
+pub mod Scanned
+pub mod Resume
+pub mod State
+pub mod Named
