@@ -29,7 +29,7 @@ use Rattle.model.specs.Gather.{Gathered, gathered, next, gather}
 use Rattle.model.specs.Call.{State, left-with, Outcome, outcome, pends, chain, admitted, finished, checked, refusal, over, Reading, unless-early, reads, taking, text-kind, text-piece, text-reading, ref-piece, ref-reading, spending, with-piece, with-reading}
 use Rattle.model.specs.Peek.{await, peek-none, peek-after, peek-from, peek-unless, peeks, abandons, abandon-unless}
 use Rattle.model.specs.Bang.{bang-prefix, with-kind, kind-of, bang-stuck, bang-named, bang-after, bang-from, bang-unless, bangs}
-use Rattle.model.specs.History.{Call, read-text, read-ref, peek-one, read-with, read-bang-element, abandon, Event, event, answering, unwritten, stays, lost-by, given, joined, lost, open-bytes, total, told-taken, does, History, fresh, more, Whole, Made, Report-whole, Continues}
+use Rattle.model.specs.History.{Call, read-text, read-ref, peek-one, read-with, read-bang-element, abandon, Event, event, answering, unwritten, stays, lost-by, given, joined, lost, open-bytes, faces, total, told-taken, does, History, fresh, more, Whole, Made, Report-whole, Continues}
 use Rattle.model.specs.declared.ending.Ending.{Ending}
 use Rattle.model.specs.declared.ending.Ending.the-variants.{Ended, Fault, Worn, Full}
 use Rattle.model.specs.declared.ending.Pending.{Pending}
@@ -52,11 +52,6 @@ use Rattle.laws.proofs.Gathers.{on-byte-both, next-end, gather-keeps, gather-g
 -- what has yet to be given out: the pending `<`, and what the source has left
 abbrev standing : State → List ℕ
 standing s = open-bytes (s .opening) ++ bytes-of (s .stream)
-
--- a pending opening's byte stands first in the source
-abbrev faces : Option ℕ → List Item → Type 0
-faces None is = Unit {0}
-faces (Some b) is = is ≡ byte b ∷ drop 1 is
 
 abbrev Faces : State → Type 0
 Faces s = faces (s .opening) (s .stream .items)
@@ -433,7 +428,7 @@ module _ {T : Type 0} (token : T) where
       let whole = k .bytes ∙ ap (λ o. open-bytes o ++ bytes-of (made .stream)) none in
       let split : length (joined es) + (opened s + length (bytes-of (s .stream))) ≡ length (bytes-of (made .stream)) =
       omega (arith, ap length whole, length-append (joined es) (standing s), length-append (open-bytes (s .opening)) (bytes-of (s .stream))) in
-      record { bytes = whole; count = omega (arith, k .count); answers = omega (arith, k .taken, ap (λ o. length (open-bytes o)) none) }
+      record { bytes = whole; count = omega (arith, k .count); answers = omega (arith, k .taken, ap (λ o. length (open-bytes o)) none); peeked = k .faced }
 
   -- whatever does as the model says continues every history
   pub continues : (s : State) (c : Call T) (a : Answer T) (s′ : State) (buf′ : List ℕ) → outcome a s′ buf′ ≡ does token s c → Continues token s (event c a buf′) s′

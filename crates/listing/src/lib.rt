@@ -6,3 +6,6 @@ pub use line::Line;
 pub use line::LineDisplay;
 pub use list::list_pieces;
 pub use list::list_report;
+
+#[cfg(test)]
+mod tests;

@@ -4,11 +4,11 @@ use mathlib.Core.Path.{_≡_}
 use mathlib.Core.Bool.{Bool, cond, _&&_, _||_}
 use mathlib.Core.List.{List, [], _∷_, _++_}
 use lib.Dec.{eqb}
-use lib.ListN.{length, take}
+use lib.ListN.{length, take, drop}
 use Rattle.std.specs.declared.option.Option.{Option}
 use Rattle.std.specs.declared.option.Option.the-variants.{Some, None}
 use Rattle.std.specs.declared.result.Result.the-variants.{Ok, Err}
-use Rattle.source.specs.Stream.{bytes-of}
+use Rattle.source.specs.Stream.{Item, byte, bytes-of}
 use Rattle.parser.specs.Scan.{Meaning}
 use Rattle.model.specs.Told.{told}
 use Rattle.model.specs.Call.{State, Outcome, outcome, reads, text-reading, ref-reading, with-reading}
@@ -94,6 +94,11 @@ abbrev pub open-bytes : Option ℕ → List ℕ
 open-bytes None = []
 open-bytes (Some b) = 60 ∷ []
 
+-- the byte peeked behind a pending opening stands first in the source
+abbrev pub faces : Option ℕ → List Item → Type 0
+faces None is = Unit {0}
+faces (Some b) is = is ≡ byte b ∷ drop 1 is
+
 -- the bytes gone from the source since the making
 abbrev pub taken : State → State → ℕ
 taken made s = length (bytes-of (made .stream)) - length (bytes-of (s .stream))
@@ -110,6 +115,8 @@ pub record Whole {T : Type 0} (made : State) (es : List (Event T)) (s : State) :
   pub count : taken made s + made .position ≡ s .position + length (open-bytes (s .opening)) + lost es
   -- what the answers tell as taken is what is gone
   pub answers : told-taken es ≡ taken made s
+  -- behind a pending `<` stands the byte that was peeked
+  pub peeked : faces (s .opening) (s .stream .items)
 
 module _ {T : Type 0} (token : T) where
   -- what a call does to a reader

@@ -1,1 +1,2 @@
 mod Spent
+mod Calls

@@ -7,6 +7,7 @@ ghost use Rattle.model.specs.Call.{outcome, admitted, refusal, reads, text-read
 ghost use Rattle.model.specs.declared.ending.Pending.the-variants as pending;
 ghost use Rattle.model.specs.declared.errors.Error.the-variants.{Syntax as syntax-error};
 ghost use Rattle.reader.specs.State.{state-of};
+ghost use Rattle.piece.specs.Calls.{Piece-continues};
 ghost use Rattle.piece.specs.Next.{of-text, of-ref, of-refused, of-with, of-bang, Spends, Opened, by-byte, at-markup, nexts, bang-kind as bang-kind-of};
 use super::kinds::Kind;
 use super::kinds::Piece;
@@ -171,8 +172,7 @@ fn read_text<S: Source>(
     reader.read_text(buf, patience)
 }
 
-// The next piece of the report, at the buffer's front; none at the end.
-pub fn next_piece<S: Source>(
+fn next_piece_inner<S: Source>(
     reader: &mut Reader<S>,
     buf: &mut [u8],
     patience: u32,
@@ -200,4 +200,16 @@ pub fn next_piece<S: Source>(
         return ref_piece(reader.read_ref(buf, patience));
     }
     markup_piece(reader, buf, patience)
+}
+
+// The next piece of the report, at the buffer's front; none at the end.
+pub fn next_piece<S: Source>(
+    reader: &mut Reader<S>,
+    buf: &mut [u8],
+    patience: u32,
+) -> Result<Option<Piece>, Refusal>
+    ensures does { λ r. ⌜ outcome r (state-of (S·Source .stream) (now (reader .exit))) (now (buf .exit)) ≡ nexts (state-of (S·Source .stream) (now (reader .entry))) (now (buf .entry)) patience ⌝ }
+    ensures report { λ r. ⌜ Piece-continues (state-of (S·Source .stream) (now (reader .entry))) (outcome r (state-of (S·Source .stream) (now (reader .exit))) (now (buf .exit))) ⌝ }
+{
+    next_piece_inner(reader, buf, patience)
 }

@@ -14,7 +14,7 @@ use super::Source;
 pub struct Narrow<S: Source> {
     source: S,
     most: u16,
-    // how many of them were taken since the last look
+    // how many of them were taken since the last look; all of them before the first
     taken: u16,
 }
 

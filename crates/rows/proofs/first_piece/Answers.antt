@@ -27,6 +27,6 @@ returns c =
     c .new-reader .ensures ∙ ap (λ s. state s 0 None) (c .new .ensures .stream) in
     record {
       does = ap (λ n. (c .next-piece-answer .result, n)) (c .position .ensures)
-          ∙ ap (λ o. (o .answer, o .after .position)) (c .next-piece-answer .ensures ∙ ap (λ s. nexts s (c .args .buf .now) 0) made);
+          ∙ ap (λ o. (o .answer, o .after .position)) (c .next-piece-answer .ensures .does ∙ ap (λ s. nexts s (c .args .buf .now) 0) made);
       rows = rows;
     }

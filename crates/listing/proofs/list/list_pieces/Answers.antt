@@ -22,7 +22,7 @@ returns-then-closes g c =
     ∙ sym (append-nil (given ++ line (s .position) a ∷ []))
     ∙ ap (λ v. (given ++ line (s .position) a ∷ []) ++ cond v [] rest) (c .if-closes .ensures tt)
     ∙ turned given _ (c .args .most) (c .loop-i .i) s (c .loop-i .buf) (c .args .patience) (c .loop-i .inv) (c .loop-i-test .taken) a s′ (c .next-piece-answer .last .buf)
-    (c .next-piece-answer .ensures)
+    (c .next-piece-answer .ensures .does)
 
 pub loop-i-again : need.loop-i-again
 loop-i-again g c =
@@ -35,4 +35,4 @@ loop-i-again g c =
     ap (λ xs. xs ++ rest) (pushed ∙ ap (λ x. given ++ x ∷ []) (c .line-of .ensures ∙ ap (λ n. line n a) (c .position-before .ensures)))
     ∙ ap (λ v. (given ++ line (s .position) a ∷ []) ++ cond v [] rest) (c .if-closes .ensures tt)
     ∙ turned given _ (c .args .most) (c .loop-i .i) s (c .loop-i .buf) (c .args .patience) (c .loop-i .inv) (c .loop-i-test .taken) a s′ (c .next-piece-answer .last .buf)
-    (c .next-piece-answer .ensures)
+    (c .next-piece-answer .ensures .does)
