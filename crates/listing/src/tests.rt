@@ -33,3 +33,17 @@ fn quota_met_and_passed(rt: LibcRuntime) -> Result<(), Fail> {
     let more = listing(rt.alloc(), report.as_slice())?;
     check(more.as_str() == "fault\t0\t7\n")
 }
+
+// How a listing closes where a construct has no end.
+#[test]
+fn closing_faults(rt: LibcRuntime) -> Result<(), Fail> {
+    let heap = rt.alloc();
+    check(listing(heap, b"<!x")?.as_str() == "fault\t0\t9\n")?;
+    check(listing(heap, b"<?x")?.as_str() == "fault\t0\t11\n")?;
+    check(listing(heap, b"<?xml ")?.as_str() == "fault\t0\t12\n")?;
+    check(listing(heap, b"<!-- -")?.as_str() == "fault\t0\t13\n")?;
+    check(listing(heap, b"<!DOCTYPE a [")?.as_str() == "fault\t0\t14\n")?;
+    check(listing(heap, b"<![CDATA[]]")?.as_str() == "fault\t0\t15\n")?;
+    check(listing(heap, b"<a b='>")?.as_str() == "fault\t0\t17\n")?;
+    check(listing(heap, b"<a b=\">")?.as_str() == "fault\t0\t18\n")
+}

@@ -1,0 +1,4 @@
+mod Keeps
+mod Parts
+mod Numbers
+mod Lists
