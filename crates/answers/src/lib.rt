@@ -1,4 +1,6 @@
 // What a gathering makes of a call's answer.
+#![tactic(auto)]
+
 ghost use Rattle.std.specs.Prelude.{◌≡◌, ◌-◌, length};
 ghost use Rattle.model.specs.Call.{admitted, pends as pends_of, finished, chain, text_kind as text_kind_of, text_piece as text_piece_of, ref_piece as ref_piece_of, with_piece as with_piece_of, refusal, spending, text_reading, ref_reading};
 ghost use Rattle.model.specs.Bang.{kind_of, with_kind};

@@ -1,4 +1,6 @@
 // Scanners of what begins with `<!`: comments, CDATA sections and document type declarations.
+#![tactic(auto)]
+
 pub mod bang;
 pub mod cdata;
 pub mod comment;

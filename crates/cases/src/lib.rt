@@ -1,4 +1,6 @@
 // Cases in text, a line each with tabs between the fields: their parts, and the cases of calls.
+#![tactic(auto)]
+
 mod bad;
 mod case;
 mod line;

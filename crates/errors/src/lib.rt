@@ -1,4 +1,6 @@
 // Why a call is refused.
+#![tactic(auto)]
+
 ghost use Rattle.std.specs.Prelude.{◌≡◌};
 ghost use Rattle.errors.specs.Numbers.{number as number_of_lem};
 ghost use Rattle.errors.specs.declared.Error.TheVariants.{Io as io_error, Syntax as syntax_error, Utf8 as utf8_error};

@@ -1,4 +1,6 @@
 // How a caller deals with the token of an opening.
+#![tactic(auto)]
+
 use model::{Peeked, ReadText, Refusal, Refused};
 use parser::ElementParser;
 use reader::{OpeningToken, Reader};

@@ -1,4 +1,6 @@
 // Cases of a scanner that is fed by itself: reading them, feeding the runs, and writing what it answers.
+#![tactic(auto)]
+
 mod case;
 mod run;
 mod scan;

@@ -1,4 +1,6 @@
 // Gathers a piece from a source into a buffer, whatever tells where it ends.
+#![tactic(auto)]
+
 mod cutter;
 mod gathering;
 

@@ -1,5 +1,7 @@
 // That the scanners of `parser` find the ends that the grammar of XML 1.0 gives to its constructs. Each function gives the fresh
 // scanner, or what it tells, and its contract is the theorem.
+#![tactic(auto)]
+
 ghost use Rattle.std.specs.Prelude.{◌≡◌, ℕ, ◌≤◌, false, List, [], map, length, take as front};
 ghost use Rattle.bang.specs.Bang.{bang_type};
 ghost use Rattle.parser.specs.Comment.{comment as comments};

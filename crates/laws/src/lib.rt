@@ -1,4 +1,6 @@
 // What holds over any order of calls, whatever the tokens are.
+#![tactic(auto)]
+
 ghost use Rattle.model.specs.Agree.{EqualAgree, WaitsApart};
 ghost use Rattle.model.specs.History.{ReportWhole};
 

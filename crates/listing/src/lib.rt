@@ -1,4 +1,6 @@
 // Lists the pieces of a report, a line each.
+#![tactic(auto)]
+
 mod line;
 mod list;
 

@@ -1,4 +1,6 @@
 // What the reader's calls mean, on plain values: their answers, the state they change, and what holds over any order of them.
+#![tactic(auto)]
+
 mod answer;
 mod ending;
 mod told;

@@ -1,4 +1,6 @@
 // Scanners that find the end of an XML construct in runs of bytes.
+#![tactic(auto)]
+
 pub mod comment;
 pub mod element;
 pub mod errors;

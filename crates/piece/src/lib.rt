@@ -1,4 +1,6 @@
 // Whole pieces of a report: the next one, and its bytes.
+#![tactic(auto)]
+
 mod display;
 mod kinds;
 mod next;

@@ -1,4 +1,6 @@
 // Lists the pieces of the report on standard input: the kind, the position before it and the length of each.
+#![tactic(auto)]
+
 use listing::list_report;
 use std::io::Read;
 

@@ -1,4 +1,6 @@
 // The answers are quick-xml's: what its calls return on plain bytes, our calls answer with enough room and patience.
+#![tactic(auto)]
+
 ghost use Rattle.quick.specs.Answers.{TextAsQuickXml, RefAsQuickXml, PeekAsQuickXml, WithAsQuickXml, BangAsQuickXml};
 
 // Whatever the tokens are.

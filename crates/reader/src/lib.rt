@@ -1,4 +1,6 @@
 // Reads pieces of XML from a source, one call a piece.
+#![tactic(auto)]
+
 mod reader;
 mod token;
 

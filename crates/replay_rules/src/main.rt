@@ -1,4 +1,6 @@
 // The program `replay`, run on cases whose answers follow from the rules alone.
+#![tactic(auto)]
+
 use script::replay;
 use std::io;
 

@@ -1,4 +1,6 @@
 // Worked examples: the first piece of some bytes that come in frames.
+#![tactic(auto)]
+
 ghost use Rattle.std.specs.Prelude.{◌≡◌};
 ghost use Rattle.rows.specs.Rows.{first, left_in, Rows};
 

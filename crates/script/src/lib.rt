@@ -1,4 +1,6 @@
 // Cases of calls: making the calls, and writing what they answer.
+#![tactic(auto)]
+
 mod calls;
 mod line;
 mod run;

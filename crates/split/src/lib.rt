@@ -1,4 +1,6 @@
 // What a piece is, above the way in which it is gathered, and what each call does, told by its piece.
+#![tactic(auto)]
+
 ghost use Rattle.model.specs.Cut.{text_cut, ref_cut, scan_cut};
 ghost use Rattle.model.specs.Call.{text_reading, ref_reading, with_reading};
 ghost use Rattle.parser.specs.Scan.{Meaning, Prefix};

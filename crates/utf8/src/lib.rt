@@ -1,4 +1,6 @@
 // The check that a run of bytes is UTF-8.
+#![tactic(auto)]
+
 ghost use Rattle.std.specs.Prelude.{◌≡◌, ◌++◌, Some, codes, decimal};
 ghost use Rattle.utf8.specs.Steps.{need_step, second_step};
 ghost use Rattle.utf8.specs.Utf8.{Checks, judged};
