@@ -3,4 +3,3 @@ pub mod CData
 pub mod Comment
 pub mod Bang
 pub mod Examples
-pub mod Faults

@@ -5,7 +5,6 @@ ghost use Rattle.bang.specs.Comment.{bang_comment_step, bang_comment_due};
 ghost use Rattle.bang.specs.Dtd.{dtd_step, dtd_due};
 ghost use Rattle.bang.specs.declared.bang.BangType.TheVariants.{CData, Comment, DocType};
 ghost use Rattle.parser.specs.Machines;
-ghost use Rattle.bang.specs.Faults.{cdata_faults, bang_comment_faults, dtd_faults};
 
 use crate::cdata::CDataParser;
 use crate::comment::BangCommentParser;
@@ -41,12 +40,6 @@ impl Parser for BangType {
       | CData s ↦ Machines.prefix cdata_step cdata_due s
       | Comment s ↦ Machines.prefix bang_comment_step bang_comment_due s
       | DocType s ↦ Machines.prefix dtd_step dtd_due s
-    ] };
-
-    ghost faults = { elim [
-      | CData s ↦ Machines.faults cdata_step cdata_due cdata_faults s
-      | Comment s ↦ Machines.faults bang_comment_step bang_comment_due bang_comment_faults s
-      | DocType s ↦ Machines.faults dtd_step dtd_due dtd_faults s
     ] };
 
     fn feed(&mut self, bytes: &[u8]) -> Option<usize> {

@@ -4,7 +4,6 @@ ghost use Rattle.parser.specs.First.{StopsAtFirst, ends_after};
 ghost use Rattle.bang.specs.CData.{cdata, cdata_step, cdata_due};
 ghost use Rattle.bang.specs.declared.cdata.CDataParser.TheVariants.{Bracket0};
 ghost use Rattle.parser.specs.Machines;
-ghost use Rattle.bang.specs.Faults.{cdata_faults};
 
 use parser::{Parser, SyntaxError};
 
@@ -47,8 +46,6 @@ impl Parser for CDataParser {
     ghost scan = { cdata };
 
     ghost prefix = { Machines.prefix cdata_step cdata_due };
-
-    ghost faults = { Machines.faults cdata_step cdata_due cdata_faults };
 
     fn feed(&mut self, bytes: &[u8]) -> Option<usize> {
         for (i, b) in bytes.iter().enumerate() {

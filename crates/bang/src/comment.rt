@@ -4,7 +4,6 @@ ghost use Rattle.parser.specs.First.{StopsAtFirst};
 ghost use Rattle.bang.specs.Comment.{bang_comment, bang_comment_step, ends_bang_comment, bang_comment_due};
 ghost use Rattle.bang.specs.declared.comment.BangCommentParser.TheVariants.{Opening0};
 ghost use Rattle.parser.specs.Machines;
-ghost use Rattle.bang.specs.Faults.{bang_comment_faults};
 
 use parser::{CommentParser, Parser, SyntaxError};
 
@@ -49,8 +48,6 @@ impl Parser for BangCommentParser {
     ghost scan = { bang_comment };
 
     ghost prefix = { Machines.prefix bang_comment_step bang_comment_due };
-
-    ghost faults = { Machines.faults bang_comment_step bang_comment_due bang_comment_faults };
 
     fn feed(&mut self, bytes: &[u8]) -> Option<usize> {
         for (i, b) in bytes.iter().enumerate() {

@@ -5,7 +5,6 @@ ghost use Rattle.bang.specs.Dtd.{dtd, dtd_step, held_none, undecided, dtd_due};
 ghost use Rattle.bang.specs.Examples.{Examples};
 ghost use Rattle.bang.specs.declared.dtd.DtdParser.TheVariants.{Before};
 ghost use Rattle.parser.specs.Machines;
-ghost use Rattle.bang.specs.Faults.{dtd_faults};
 
 use parser::{CommentParser, ElementParser, Parser, PiParser, SyntaxError};
 
@@ -95,31 +94,45 @@ impl DtdParser {
     fn step(&mut self, b: u8) -> bool
         ensures { Moves (dtd_step self.old b) result self.new }
     {
-        match (&mut *self, b) {
-            (Self::Before | Self::After, b'>') => return true,
-            (Self::Before, b'[') => *self = Self::Inside,
-            (Self::Before, b'\'' | b'"') => *self = Self::Literal(b),
-            (Self::Literal(quote), _) if b == *quote => *self = Self::Before,
-            (Self::Inside, b']') => *self = Self::After,
-            (Self::Inside, b'<') => *self = Self::Undecided(Held::none()),
-            (Self::Undecided(held), _) => *self = held.decide(b),
-            (Self::Plain, b'>') => *self = Self::Inside,
-            (Self::InPi(pi), _) => {
+        match self {
+            Self::Before => match b {
+                b'>' => return true,
+                b'[' => *self = Self::Inside,
+                b'\'' | b'"' => *self = Self::Literal(b),
+                _ => {}
+            },
+            Self::Literal(quote) => {
+                if b == *quote {
+                    *self = Self::Before;
+                }
+            }
+            Self::Inside => match b {
+                b']' => *self = Self::After,
+                b'<' => *self = Self::Undecided(Held::none()),
+                _ => {}
+            },
+            Self::Undecided(held) => *self = held.decide(b),
+            Self::Plain => {
+                if b == b'>' {
+                    *self = Self::Inside;
+                }
+            }
+            Self::InPi(pi) => {
                 if pi.step(b) {
                     *self = Self::Inside;
                 }
             }
-            (Self::InComment(comment), _) => {
+            Self::InComment(comment) => {
                 if comment.step(b) {
                     *self = Self::Inside;
                 }
             }
-            (Self::InQuoteSensitive(element), _) => {
+            Self::InQuoteSensitive(element) => {
                 if element.step(b) {
                     *self = Self::Inside;
                 }
             }
-            _ => {}
+            Self::After => return b == b'>',
         }
         false
     }
@@ -128,7 +141,7 @@ impl DtdParser {
 impl Default for DtdParser {
     ghost is_default = { λ s. s ≡ Before };
 
-    // The examples are two declarations, one of them in three runs too.
+    // The examples are two declarations, each in three runs too.
     fn default() -> DtdParser
         ensures fresh { result ≡ Before }
         ensures examples { Examples (dtd result) }
@@ -141,8 +154,6 @@ impl Parser for DtdParser {
     ghost scan = { dtd };
 
     ghost prefix = { Machines.prefix dtd_step dtd_due };
-
-    ghost faults = { Machines.faults dtd_step dtd_due dtd_faults };
 
     fn feed(&mut self, bytes: &[u8]) -> Option<usize> {
         for (i, b) in bytes.iter().enumerate() {

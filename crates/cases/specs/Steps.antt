@@ -1,34 +1,23 @@
 -- What an entry of a script means: a call, whether it goes on, the length of its buffer and its patience.
 use Rattle.std.specs.Prelude.{ℕ, Bool, true, false, cond, List, [], ◌∷◌, Some, None, codes, Option}
 use Rattle.std.specs.Str.{bytes_eq}
-use Rattle.cases.specs.declared.step.Spending.{Spending}
 use Rattle.cases.specs.declared.step.Spending.TheVariants.{Elem, Pi, Comment, Bang, Abandon}
 use Rattle.cases.specs.declared.step.Call.{Call}
 use Rattle.cases.specs.declared.step.Call.TheVariants.{Text, Ref, Peek, Next, Spend}
 use Rattle.cases.specs.declared.step.Step.{Step}
-use Rattle.cases.specs.Words.{before, behind, bound, or_else, decimal_of}
+use Rattle.cases.specs.Words.{before, behind, bound, decimal_of}
 
 -- the first name that is written so
 abbrev pub look_up : {A : Type 0} → List (List ℕ × A) → List ℕ → Option A
 look_up [] name = None
 look_up (entry ∷ entries) name = cond (bytes_eq name entry.0) (Some entry.1) (look_up entries name)
 
-abbrev pub spendings : List (List ℕ × Spending)
-spendings = (codes "elem", Elem) ∷ (codes "pi", Pi) ∷ (codes "comment", Comment) ∷ (codes "bang", Bang) ∷ (codes "abandon", Abandon) ∷ []
-
-abbrev pub singles : List (List ℕ × Call)
-singles = (codes "text", Text) ∷ (codes "ref", Ref) ∷ (codes "peek", Peek) ∷ (codes "next", Next) ∷ []
-
-abbrev pub single_of : List ℕ → Option Call
-single_of name = or_else (look_up singles name) (bound (look_up spendings name) (λ s. Some (Spend s)))
-
--- the names of many calls, each with the first
-abbrev pub many : List (List ℕ × Call)
-many = (codes "pieces", Text) ∷ (codes "nexts", Next) ∷ []
-
--- the call of a name, and whether its answer leads to a further one
-abbrev pub call_of : List ℕ → Option (Call × Bool)
-call_of name = or_else (bound (look_up many name) (λ c. Some (c, true))) (bound (single_of name) (λ c. Some (c, false)))
+-- the first call of each name, and whether its answer leads to a further one
+abbrev pub names : List (List ℕ × (Call × Bool))
+names =
+    (codes "pieces", (Text, true)) ∷ (codes "nexts", (Next, true)) ∷ (codes "text", (Text, false)) ∷ (codes "ref", (Ref, false))
+    ∷ (codes "peek", (Peek, false)) ∷ (codes "next", (Next, false)) ∷ (codes "elem", (Spend Elem, false)) ∷ (codes "pi", (Spend Pi, false))
+    ∷ (codes "comment", (Spend Comment, false)) ∷ (codes "bang", (Spend Bang, false)) ∷ (codes "abandon", (Spend Abandon, false)) ∷ []
 
 -- a buffer's length: 65536 where there is no digit
 abbrev pub length_of : List ℕ → Option ℕ
@@ -47,5 +36,5 @@ numbers_of (Some text) = bound (length_of (before 58 text)) (λ n. bound (patien
 
 abbrev pub step_of : List ℕ → Option Step
 step_of text =
-    bound (call_of (before 58 text)) (λ call. bound (numbers_of (behind 58 text))
+    bound (look_up names (before 58 text)) (λ call. bound (numbers_of (behind 58 text))
     (λ numbers. Some (record { call = call.0; goes_on = call.1; buffer = numbers.0; patience = numbers.1 })))

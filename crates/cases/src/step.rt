@@ -1,7 +1,7 @@
 // An entry of a script: the calls that it makes.
 ghost use Rattle.std.specs.Prelude.{◌≡◌};
 ghost use Rattle.std.specs.Option.{option_map};
-ghost use Rattle.cases.specs.Steps.{look_up, spendings, single_of, call_of, length_of, numbers_of, step_of};
+ghost use Rattle.cases.specs.Steps.{look_up, names, length_of, numbers_of, step_of};
 
 use super::words::{Word, cut_at, decimal, decimal_u32, spells};
 
@@ -42,50 +42,34 @@ pub struct Step {
     pub patience: u32,
 }
 
-fn spending_named(name: &[u8]) -> Option<Spending>
-    ensures { result ≡ look_up spendings name.now }
-{
-    if spells(name, b"elem") {
-        Some(Spending::Elem)
-    } else if spells(name, b"pi") {
-        Some(Spending::Pi)
-    } else if spells(name, b"comment") {
-        Some(Spending::Comment)
-    } else if spells(name, b"bang") {
-        Some(Spending::Bang)
-    } else if spells(name, b"abandon") {
-        Some(Spending::Abandon)
-    } else {
-        None
-    }
-}
-
-fn single_named(name: &[u8]) -> Option<Call>
-    ensures { result ≡ single_of name.now }
-{
-    if spells(name, b"text") {
-        Some(Call::Text)
-    } else if spells(name, b"ref") {
-        Some(Call::Ref)
-    } else if spells(name, b"peek") {
-        Some(Call::Peek)
-    } else if spells(name, b"next") {
-        Some(Call::Next)
-    } else {
-        Some(Call::Spend(spending_named(name)?))
-    }
-}
-
 // The call of a name, and whether it goes on.
-fn call_named(name: &[u8]) -> Option<(Call, bool)>
-    ensures { result ≡ call_of name.now }
+fn named(name: &[u8]) -> Option<(Call, bool)>
+    ensures { result ≡ look_up names name.now }
 {
     if spells(name, b"pieces") {
         Some((Call::Text, true))
     } else if spells(name, b"nexts") {
         Some((Call::Next, true))
+    } else if spells(name, b"text") {
+        Some((Call::Text, false))
+    } else if spells(name, b"ref") {
+        Some((Call::Ref, false))
+    } else if spells(name, b"peek") {
+        Some((Call::Peek, false))
+    } else if spells(name, b"next") {
+        Some((Call::Next, false))
+    } else if spells(name, b"elem") {
+        Some((Call::Spend(Spending::Elem), false))
+    } else if spells(name, b"pi") {
+        Some((Call::Spend(Spending::Pi), false))
+    } else if spells(name, b"comment") {
+        Some((Call::Spend(Spending::Comment), false))
+    } else if spells(name, b"bang") {
+        Some((Call::Spend(Spending::Bang), false))
+    } else if spells(name, b"abandon") {
+        Some((Call::Spend(Spending::Abandon), false))
     } else {
-        Some((single_named(name)?, false))
+        None
     }
 }
 
@@ -119,7 +103,7 @@ impl Word for Step {
 
     fn read(text: &[u8]) -> Option<Step> {
         let (name, behind) = cut_at(text, b':');
-        let (call, goes_on) = call_named(name)?;
+        let (call, goes_on) = named(name)?;
         let (buffer, patience) = numbers(behind)?;
         Some(Step {
             call,

@@ -43,12 +43,12 @@ fn copy_run<S: Source, C: Cutter>(
 where
     C::End: Drop,
     requires within { written ≤ length buf.old }
-    requires some { 1 ≤ ready source.old }
-    ensures goes { (p : ℕ) → gathering (cuts cutter.old (bytes_of (stream source.old))) (length buf.old) (front written buf.old) p (stream source.old).items (stream source.old).tail ≡ resumed result.1 (cuts cutter.new) (length buf.old) (front result.0 buf.new) p (stream source.new).items (stream source.old).tail }
-    ensures tail { (stream source.new).tail ≡ (stream source.old).tail }
+    requires some { 1 ≤ S.Source.ready source.old }
+    ensures goes { (p : ℕ) → gathering (C.Cutter.cuts cutter.old (bytes_of (S.Source.stream source.old))) (length buf.old) (front written buf.old) p (S.Source.stream source.old).items (S.Source.stream source.old).tail ≡ resumed result.1 (C.Cutter.cuts cutter.new) (length buf.old) (front result.0 buf.new) p (S.Source.stream source.new).items (S.Source.stream source.old).tail }
+    ensures tail { (S.Source.stream source.new).tail ≡ (S.Source.stream source.old).tail }
     ensures fits { result.0 ≤ length buf.old }
     ensures rest { past result.0 buf.new ≡ past result.0 buf.old }
-    ensures less { result.1 ≡ None → length (stream source.new).items < length (stream source.old).items }
+    ensures less { result.1 ≡ None → length (S.Source.stream source.new).items < length (S.Source.stream source.old).items }
     ensures grows { written ≤ result.0 }
 {
     let room = buf.len() - written;
@@ -70,8 +70,8 @@ pub fn gather<S: Source, C: Cutter + Drop>(
 ) -> (usize, Ending<C::End>)
 where
     C::End: Drop,
-    ensures all { gathering (cuts cutter (bytes_of (stream source.old))) (length buf.old) (front at buf.old) patience (stream source.old).items (stream source.old).tail ≡ gathered (front result.0 buf.new) (stream source.new).items result.1 }
-    ensures tail { (stream source.new).tail ≡ (stream source.old).tail }
+    ensures all { gathering (C.Cutter.cuts cutter (bytes_of (S.Source.stream source.old))) (length buf.old) (front at buf.old) patience (S.Source.stream source.old).items (S.Source.stream source.old).tail ≡ gathered (front result.0 buf.new) (S.Source.stream source.new).items result.1 }
+    ensures tail { (S.Source.stream source.new).tail ≡ (S.Source.stream source.old).tail }
     ensures fits { result.0 ≤ length buf.old }
     ensures rest { past result.0 buf.new ≡ past result.0 buf.old }
     ensures grows { at ≤ length buf.old → at ≤ result.0 }
@@ -104,9 +104,9 @@ where
 
 // Passes waits until there is a byte, which stays, or the end: what there is, and the patience left.
 pub fn await_byte<S: Source>(source: &mut S, patience: u32) -> (Result<Option<u8>, Error>, u32)
-    ensures all { await patience (stream source.old).items (stream source.old).tail ≡ awaited result.0 (stream source.new).items result.1 }
-    ensures tail { (stream source.new).tail ≡ (stream source.old).tail }
-    ensures some { is_byte result.0 ≡ true → 1 ≤ ready source.new }
+    ensures all { await patience (S.Source.stream source.old).items (S.Source.stream source.old).tail ≡ awaited result.0 (S.Source.stream source.new).items result.1 }
+    ensures tail { (S.Source.stream source.new).tail ≡ (S.Source.stream source.old).tail }
+    ensures some { is_byte result.0 ≡ true → 1 ≤ S.Source.ready source.new }
 {
     let mut left = patience;
     loop {
@@ -129,9 +129,9 @@ pub fn await_byte<S: Source>(source: &mut S, patience: u32) -> (Result<Option<u8
 
 // Passes waits until there is a byte, which names what `<!` begins and stays: its scanner, and the patience left.
 pub fn bang_type<S: Source>(source: &mut S, patience: u32) -> Result<(BangType, u32), Error>
-    ensures value { result ≡ named (await patience (stream source.old).items (stream source.old).tail) }
-    ensures left { (stream source.new).items ≡ (await patience (stream source.old).items (stream source.old).tail).left }
-    ensures tail { (stream source.new).tail ≡ (stream source.old).tail }
+    ensures value { result ≡ named (await patience (S.Source.stream source.old).items (S.Source.stream source.old).tail) }
+    ensures left { (S.Source.stream source.new).items ≡ (await patience (S.Source.stream source.old).items (S.Source.stream source.old).tail).left }
+    ensures tail { (S.Source.stream source.new).tail ≡ (S.Source.stream source.old).tail }
 {
     let mut left = patience;
     let bang = loop {

@@ -2,13 +2,13 @@
 // scanner, or what it tells, and its contract is the theorem.
 #![tactic(auto)]
 
-ghost use Rattle.std.specs.Prelude.{◌≡◌, ℕ, ◌≤◌, false, List, [], map, length, take as front};
+ghost use Rattle.std.specs.Prelude.{◌≡◌, ℕ, false, List, [], map, IfOk};
 ghost use Rattle.bang.specs.Bang.{bang_type};
 ghost use Rattle.parser.specs.Comment.{comment as comments};
 ghost use Rattle.bang.specs.Dtd.{dtd};
 ghost use Rattle.parser.specs.Element.{element};
 ghost use Rattle.parser.specs.Pi.{pi, after_question};
-ghost use Rattle.parser.specs.Runs.{told, Written};
+ghost use Rattle.parser.specs.Runs.{told};
 ghost use Rattle.parser.specs.declared.comment.CommentParser.TheVariants.{Seen0};
 ghost use Rattle.bang.specs.declared.dtd.DtdParser.TheVariants.{Before};
 ghost use Rattle.parser.specs.declared.element.ElementParser.TheVariants.{Outside};
@@ -19,6 +19,7 @@ ghost use Rattle.grammar.specs.Xml.{STag, ETag, EmptyElemTag, PI, Comment, CDSec
 
 use bang::{BangType, DtdParser};
 use parser::{CommentParser, ElementParser, PiParser, Scanned, feed_runs};
+use std::alloc::{AllocError, Global};
 
 // The `<` of a tag is not fed.
 pub fn tag() -> ElementParser
@@ -57,14 +58,13 @@ pub fn bang(byte: u8) -> Option<BangType>
     BangType::new(byte)
 }
 
-// A DOCTYPE that holds a comment, cut between any two bytes, any number of times; and so any DOCTYPE. Its `<!` is not fed. Where
-// there is room for an answer to each run, the stop is at the DOCTYPE's last byte, wherever the cuts are.
-pub fn doctype(runs: &[&[u8]], content: &[u8], answers: &mut [Scanned]) -> usize
-    ensures given { Written (told (dtd Before) content.now [] (map (λ x. x.now) runs.now)) answers.old result answers.new }
-    ensures anywhere { length runs.now ≤ length answers.old → CutAnywhere Doctypedecl (map (λ x. x.now) runs.now) (front result answers.new) }
-    ensures commented { length runs.now ≤ length answers.old → CutAnywhere Commented (map (λ x. x.now) runs.now) (front result answers.new) }
-    ensures in_comment { length runs.now ≤ length answers.old → CutInComment (map (λ x. x.now) runs.now) (front result answers.new) }
+// A DOCTYPE that holds a comment, cut between any two bytes, any number of times; and so any DOCTYPE. Its `<!` is not fed.
+pub fn doctype(heap: Global, runs: &[&[u8]], content: &[u8]) -> Result<Vec<Scanned>, AllocError>
+    ensures given { IfOk result (λ v. v.items ≡ told (dtd Before) content.now [] (map (λ x. x.now) runs.now)) }
+    ensures anywhere { IfOk result (λ v. CutAnywhere Doctypedecl (map (λ x. x.now) runs.now) v.items) }
+    ensures commented { IfOk result (λ v. CutAnywhere Commented (map (λ x. x.now) runs.now) v.items) }
+    ensures in_comment { IfOk result (λ v. CutInComment (map (λ x. x.now) runs.now) v.items) }
     ensures holds { (text : List ℕ) → Commented text → Doctypedecl text }
 {
-    feed_runs(DtdParser::default(), runs, content, answers)
+    feed_runs(heap, DtdParser::default(), runs, content)
 }

@@ -38,7 +38,7 @@ pub fn list_pieces<S: Source>(
     patience: u32,
     most: usize,
 ) -> Result<Vec<Line>, AllocError>
-    ensures { IfOk result (λ v. v.items ≡ listed most (state_of stream reader.old) buf.old patience) }
+    ensures { IfOk result (λ v. v.items ≡ listed most (state_of S.Source.stream reader.old) buf.old patience) }
 {
     let mut lines = Vec::new(heap);
     for i in 0..most {

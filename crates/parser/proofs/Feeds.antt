@@ -1,9 +1,9 @@
 -- What one turn of `feed_runs` keeps. Assumes nothing.
-use Rattle.std.proofs.Common.{◌≡◌, ℕ, ◌+◌, ◌-◌, ◌<◌, ◌≤◌, min, List, [], ◌∷◌, ◌++◌, map, length, get_or, take, drop, set, Some, None, Option, sym, refl, ap, ◌∙◌, subst, append_assoc, append-nil, arith, length-append, length-set, Bor}
+use Rattle.std.proofs.Common.{◌≡◌, ℕ, ◌+◌, ◌-◌, ◌<◌, ◌≤◌, List, [], ◌∷◌, ◌++◌, map, length, get_or, take, drop, Some, None, Option, sym, refl, ap, ◌∙◌, subst, append_assoc, append-nil, arith, length-append, Bor}
 use Rattle.std.specs.List.{flat_map}
-use Rattle.std.proofs.lemmas.List.{take_more, take_more_set, take_at, take_all, drop_more, drop_all, drop-drop, drop-set-lt, length-take-le, flat_map_more, get_or-map, length-map}
+use Rattle.std.proofs.lemmas.List.{take_more, drop_more, drop_all, flat_map_more, get_or-map, length-map}
 use Rattle.parser.specs.Scan.{Verdict, stop, unclosed, answer, less, Due, Meaning, Follows, Fed}
-use Rattle.parser.specs.Runs.{told, Written}
+use Rattle.parser.specs.Runs.{told}
 use Rattle.parser.specs.declared.errors.SyntaxError.{SyntaxError}
 use Rattle.parser.specs.declared.runs.Scanned.{Scanned}
 use Rattle.parser.specs.declared.runs.Scanned.TheVariants.{Stop, Open}
@@ -94,73 +94,11 @@ module _ (m new after : Meaning) (content : List ℕ) (runs : List (Bor (List �
   here : (p : Option ℕ) → Fed new after (get_or runs i d).now p → Fed new after (get_or (held runs) i []) p
   here p fed = subst (λ l. Fed new after l p) (sym (get_or-map (λ x. x.now) runs i d [] lt)) fed
 
-  turn_stop : (k : ℕ) → Fed new after (get_or runs i d).now (Some k) → given ++ Stop k ∷ [] ≡ told m content [] (held runs)
+  pub turn_stop : (k : ℕ) → Fed new after (get_or runs i d).now (Some k) → given ++ Stop k ∷ [] ≡ told m content [] (held runs)
   turn_stop k fed = sofar_stop so long k (here (Some k) fed)
 
-  turn_open : (f : SyntaxError) → Fed new after (get_or runs i d).now None → Due (after []) content f → Sofar m after content (held runs) (i + 1) (given ++ Open f ∷ [])
+  pub turn_open : (f : SyntaxError) → Fed new after (get_or runs i d).now None → Due (after []) content f → Sofar m after content (held runs) (i + 1) (given ++ Open f ∷ [])
   turn_open f fed due = sofar_open so long f (here None fed) due
 
--- a front of n, the last of which was put in its place
-drop-next : (i : ℕ) (xs ys : List Scanned) → drop i xs ≡ drop i ys → drop (i + 1) xs ≡ drop (i + 1) ys
-drop-next i xs ys e = let one : i + 1 ≡ 1 + i = omega arith in let x = drop-drop 1 i xs in let y = drop-drop 1 i ys in sym x ∙ ap (drop 1) e ∙ y
-
-module _ (all old answers : List Scanned) (i : ℕ) (room : i ≤ length answers) (long : length answers ≡ length old) (behind : drop i answers ≡ drop i old) where
-  -- there is room for no more, or nothing more is told
-  written : (rest : List Scanned) → take i answers ++ rest ≡ all → i ≡ min (i + length rest) (length old) → Written all old i answers
-  written rest e n =
-      let front : length (take i answers) ≡ i = length-take-le i answers room in
-      let size : i + length rest ≡ length all = ap (λ k. k + length rest) (sym front) ∙ sym (length-append (take i answers) rest) ∙ ap length e in
-      record {
-        count = n ∙ ap (λ k. min k (length old)) size;
-        front = sym (take_at (take i answers) rest i front) ∙ ap (take i) e;
-        behind = behind;
-      }
-
-  -- one more was told, and it is the last
-  written_last : (v : Scanned) → i < length answers → take i answers ++ v ∷ [] ≡ all → Written all old (i + 1) (set answers i v)
-  written_last v lt e =
-      let front : length (take i answers) ≡ i = length-take-le i answers room in
-      let size : length all ≡ i + 1 = ap length (sym e) ∙ length-append (take i answers) (v ∷ []) ∙ ap (λ k. k + 1) front in
-      record {
-        count = omega arith;
-        front = take_more_set answers i v lt ∙ e ∙ sym (take_all (i + 1) all (omega arith));
-        behind = drop-set-lt (i + 1) answers i v (omega arith) ∙ drop-next i answers old behind;
-      }
-
--- The loop of `feed_runs` came to run i. What it may answer there follows, so that only the next turn is left to a proof.
-pub record Turned (m new : Meaning) (content : List ℕ) (runs : List (Bor (List ℕ))) (old : List Scanned) (i : ℕ) (answers : List Scanned) : Type 0 where
-  pub sofar : Sofar m new content (held runs) i (take i answers)
-  pub room : i ≤ length answers
-  pub long : length answers ≡ length old
-  pub behind : drop i answers ≡ drop i old
-  pub full : length answers ≤ i → Written (told m content [] (held runs)) old i answers
-  pub ends : length runs ≤ i → Written (told m content [] (held runs)) old (length runs) answers
-  pub stops : (after : Meaning) (k : ℕ) (d : Bor (List ℕ)) → i < length runs → i < length answers → Fed new after (get_or runs i d).now (Some k) → Written (told m content [] (held runs)) old (i + 1) (set answers i (Stop k))
-
-module _ (m : Meaning) (content : List ℕ) (runs : List (Bor (List ℕ))) (old : List Scanned) where
-  turned : (new : Meaning) (i : ℕ) (answers : List Scanned) → Sofar m new content (held runs) i (take i answers) → i ≤ length answers → length answers ≡ length old → drop i answers ≡ drop i old → Turned m new content runs old i answers
-  turned new i answers so room long behind = record {
-    sofar = so;
-    room = room;
-    long = long;
-    behind = behind;
-    full = λ h. written (told m content [] (held runs)) old answers i room long behind (told m content (front (held runs) i) (drop i (held runs))) so.rest (omega arith);
-    ends = λ h.
-        let fits : i ≤ length runs = rw length-map at so.fits in
-        let same : i ≡ length runs = omega arith in
-        let last : take i answers ++ [] ≡ told m content [] (held runs) = append-nil (take i answers) ∙ sofar_all m new content (held runs) i (take i answers) so (rw length-map h) in
-        subst (λ n. Written (told m content [] (held runs)) old n answers) same (written (told m content [] (held runs)) old answers i room long behind [] last (omega arith));
-    stops = λ after k d lt free fed. written_last (told m content [] (held runs)) old answers i room long behind (Stop k) free (turn_stop m new after content runs i (take i answers) so lt d k fed);
-  }
-
-  pub turned_none : Turned m m content runs old 0 old
-  turned_none = turned m 0 old (sofar_none m content (held runs)) (omega arith) refl refl
-
-  pub turned_more : (new after : Meaning) (i : ℕ) (answers : List Scanned) (d : Bor (List ℕ)) (f : SyntaxError) → Turned m new content runs old i answers → i < length runs → i < length answers
-      → Fed new after (get_or runs i d).now None → Due (after []) content f → Turned m after content runs old (i + 1) (set answers i (Open f))
-  turned_more new after i answers d f h lt free fed due =
-      turned after (i + 1) (set answers i (Open f))
-      (subst (Sofar m after content (held runs) (i + 1)) (sym (take_more_set answers i (Open f) free)) (turn_open m new after content runs i (take i answers) h.sofar lt d f fed due))
-      (simp length-set (omega arith))
-      (length-set answers i (Open f) ∙ h.long)
-      (drop-set-lt (i + 1) answers i (Open f) (omega arith) ∙ drop-next i answers old h.behind)
+pub turns_over : (m new : Meaning) (content : List ℕ) (runs : List (Bor (List ℕ))) (i : ℕ) (given : List Scanned) → Sofar m new content (held runs) i given → length runs ≤ i → given ≡ told m content [] (held runs)
+turns_over m new content runs i given so end = sofar_all m new content (held runs) i given so (rw length-map end)

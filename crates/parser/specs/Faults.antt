@@ -1,5 +1,5 @@
 -- The number under which each fault is reported. Assumes nothing.
-use Rattle.std.specs.Prelude.{ℕ, ◌≤◌}
+use Rattle.std.specs.Prelude.{ℕ}
 use Rattle.parser.specs.declared.errors.SyntaxError.{SyntaxError}
 use Rattle.parser.specs.declared.errors.SyntaxError.TheVariants.{InvalidBangMarkup, UnclosedPI, UnclosedXmlDecl, UnclosedComment, UnclosedDoctype, UnclosedCData, UnclosedTag, UnclosedSingleQuotedAttributeValue, UnclosedDoubleQuotedAttributeValue}
 
@@ -13,7 +13,3 @@ number UnclosedCData = 15
 number UnclosedTag = 16
 number UnclosedSingleQuotedAttributeValue = 17
 number UnclosedDoubleQuotedAttributeValue = 18
-
--- the fault of a construct that has no end: all but InvalidBangMarkup
-abbrev pub Unclosed : SyntaxError → Type 0
-Unclosed e = (11 ≤ number e) × (number e ≤ 18)

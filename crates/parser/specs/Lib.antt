@@ -1,5 +1,5 @@
-pub mod Faults
 pub mod Scan
+pub mod Faults
 pub mod Bytes
 pub mod Words
 pub mod First
@@ -8,4 +8,3 @@ pub mod Pi
 pub mod Comment
 pub mod Runs
 pub mod Machines
-pub mod FaultsLemmas

@@ -2,8 +2,7 @@
 use Rattle.std.specs.Prelude.{◌≡◌, ℕ, suc, ◌+◌, ◌<◌, ◌≤◌, Bool, true, false, List, [], ◌∷◌, ◌++◌, length, take, drop, Some, None, ◌≢◌, slice_index, refl}
 use Rattle.std.proofs.Common.{sym, ap, subst, ◌∙◌, append-nil, append_assoc, zero-add, add-one, arith, take_all}
 use Rattle.std.proofs.lemmas.List.{take_more, length-take-le, length_push, take-append-drop, drop_more}
-use Rattle.parser.specs.Faults.{Unclosed}
-use Rattle.parser.specs.Scan.{Verdict, stop, unclosed, answer, less, later, Prefix, Faults, Fed}
+use Rattle.parser.specs.Scan.{Verdict, stop, unclosed, answer, less, later, Prefix, Fed}
 use Rattle.parser.specs.Bytes.{Move, halt, goes, machine, Moves}
 use Rattle.parser.specs.declared.errors.SyntaxError.{SyntaxError}
 
@@ -155,6 +154,3 @@ module _ {S : Type 0} (step : S → ℕ → Move S) (due : S → List ℕ → Sy
       go : ((t : S) → machine step due t xs ≡ unclosed d → (u : S) × (due u ≡ d)) → (m : Move S) → step s x ≡ m → (u : S) × (due u ≡ d)
       go ih halt q = let e' : stop 0 ≡ unclosed d = sym (machine-cons s x xs halt q) ∙ e in let z : ◌≡◌ {A = ℕ} 0 1 = cc in absurd (omega arith)
       go ih (goes t) q = ih t (earlier (machine step due t xs) (sym (machine-cons s x xs (goes t) q) ∙ e))
-
-  pub faults : ((s : S) (content : List ℕ) → Unclosed (due s content)) → (s : S) → Faults (machine step due s)
-  faults all s xs d e content = let o = owes s xs d e in subst (λ f. Unclosed (f content)) o.1 (all o.0 content)

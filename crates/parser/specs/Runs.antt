@@ -1,5 +1,5 @@
 -- A scanner that is fed one run after another. Assumes nothing.
-use Rattle.std.specs.Prelude.{◌≡◌, ℕ, ◌-◌, min, List, [], ◌∷◌, ◌++◌, length, take, drop}
+use Rattle.std.specs.Prelude.{ℕ, ◌-◌, List, [], ◌∷◌, ◌++◌, length}
 use Rattle.parser.specs.Scan.{Meaning, stop, unclosed}
 use Rattle.parser.specs.declared.runs.Scanned.{Scanned}
 use Rattle.parser.specs.declared.runs.Scanned.TheVariants.{Stop, Open}
@@ -9,9 +9,3 @@ use Rattle.parser.specs.declared.runs.Scanned.TheVariants.{Stop, Open}
 abbrev pub told : Meaning → List ℕ → List ℕ → List (List ℕ) → List Scanned
 told m content before [] = []
 told m content before (run ∷ runs) = elim (m (before ++ run)) [ stop k ↦ Stop (k - length before) ∷ [] | unclosed due ↦ Open (due content) ∷ told m content (before ++ run) runs ]
-
--- the first n of `all` stand at the front of the list, as many as there is room for, and what is behind them is as it was
-pub record Written (all old : List Scanned) (n : ℕ) (new : List Scanned) : Type 0 where
-  pub count : n ≡ min (length all) (length old)
-  pub front : take n new ≡ take n all
-  pub behind : drop n new ≡ drop n old

@@ -1,6 +1,5 @@
 -- What a scanner means: for every run of bytes, the place at which it stops, or that it is open. Assumes nothing.
 use Rattle.std.specs.Prelude.{◌≡◌, ℕ, ◌+◌, ◌-◌, ◌<◌, List, ◌++◌, length, take, IfSome, Some, None, Option}
-use Rattle.parser.specs.Faults.{Unclosed}
 use Rattle.parser.specs.declared.errors.SyntaxError.{SyntaxError}
 
 -- `stop k`: the byte at place k ends the construct. `unclosed due`: no byte does, and `due content` is the fault to report if
@@ -35,10 +34,6 @@ Meaning = List ℕ → Verdict
 -- a stop lies within the run, and every run with the same bytes through that place stops there
 abbrev pub Prefix : Meaning → Type 0
 Prefix m = (xs : List ℕ) (k : ℕ) → m xs ≡ stop k → (k < length xs) × ((ys : List ℕ) → take (k + 1) ys ≡ take (k + 1) xs → m ys ≡ stop k)
-
--- where it is open, the fault is that of a construct without an end, whatever the content
-abbrev pub Faults : Meaning → Type 0
-Faults m = (xs : List ℕ) (due : List ℕ → SyntaxError) → m xs ≡ unclosed due → (content : List ℕ) → Unclosed (due content)
 
 -- after the run xs without a stop, `new` means for every further run what `old` means for both joined
 abbrev pub Follows : Meaning → Meaning → List ℕ → Type 0

@@ -4,13 +4,12 @@ ghost use Rattle.parser.specs.First.{StopsAtFirst, ends_after};
 ghost use Rattle.parser.specs.Comment.{comment, comment_step, comment_due};
 ghost use Rattle.parser.specs.declared.comment.CommentParser.TheVariants.{Seen0};
 ghost use Rattle.parser.specs.Machines;
-ghost use Rattle.parser.specs.FaultsLemmas.{comment_faults};
 
 use crate::errors::SyntaxError;
 use crate::parser::Parser;
 
 // Finds the `-->` that ends a comment, fed from the byte after `<!--`: how many dashes came right before, two for more.
-#[derive(Clone, Copy)]
+#[derive(Clone, Copy, Debug, PartialEq, Eq)]
 pub enum CommentParser {
     Seen0,
     Seen1,
@@ -48,8 +47,6 @@ impl Parser for CommentParser {
     ghost scan = { comment };
 
     ghost prefix = { Machines.prefix comment_step comment_due };
-
-    ghost faults = { Machines.faults comment_step comment_due comment_faults };
 
     fn feed(&mut self, bytes: &[u8]) -> Option<usize> {
         for (i, b) in bytes.iter().enumerate() {

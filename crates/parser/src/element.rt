@@ -4,13 +4,12 @@ ghost use Rattle.parser.specs.Element.{element, element_step, element_due};
 ghost use Rattle.parser.specs.First.{StopsAtFirst, ends_tag};
 ghost use Rattle.parser.specs.declared.element.ElementParser.TheVariants.{Outside};
 ghost use Rattle.parser.specs.Machines;
-ghost use Rattle.parser.specs.FaultsLemmas.{element_faults};
 
 use crate::errors::SyntaxError;
 use crate::parser::Parser;
 
 // Finds the `>` that ends a tag: the first one outside quotes. Only the quote that opened a value closes it.
-#[derive(Clone, Copy)]
+#[derive(Clone, Copy, Debug, PartialEq, Eq)]
 pub enum ElementParser {
     // in no attribute's value
     Outside,
@@ -52,8 +51,6 @@ impl Parser for ElementParser {
     ghost scan = { element };
 
     ghost prefix = { Machines.prefix element_step element_due };
-
-    ghost faults = { Machines.faults element_step element_due element_faults };
 
     fn feed(&mut self, bytes: &[u8]) -> Option<usize> {
         for (i, b) in bytes.iter().enumerate() {

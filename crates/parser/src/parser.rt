@@ -1,5 +1,5 @@
 ghost use Rattle.std.specs.Prelude.{ℕ, List, []};
-ghost use Rattle.parser.specs.Scan.{Verdict, Due, Prefix, Faults, Fed};
+ghost use Rattle.parser.specs.Scan.{Verdict, Due, Prefix, Fed};
 
 use crate::errors::SyntaxError;
 
@@ -18,7 +18,4 @@ pub trait Parser {
 
     // A stop lies within the run, and no byte after it matters.
     ghost prefix: { (s : Self) → Prefix (scan s) };
-
-    // Where it is open, the fault due is one of the unclosed constructs.
-    ghost faults: { (s : Self) → Faults (scan s) };
 }

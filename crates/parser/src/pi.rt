@@ -3,14 +3,13 @@ ghost use Rattle.parser.specs.Bytes.{Moves};
 ghost use Rattle.parser.specs.First.{StopsAtFirst, ends_after};
 ghost use Rattle.parser.specs.Pi.{pi, pi_step, after_question, declares, name_ends, pi_due};
 ghost use Rattle.parser.specs.Machines;
-ghost use Rattle.parser.specs.FaultsLemmas.{pi_faults};
 
 use crate::errors::SyntaxError;
 use crate::parser::Parser;
 
 // Finds the `?>` that ends a processing instruction: whether the byte before was `?`. A fresh one has no byte before, so the
 // `?` of the opening `<?` counts only if it is fed.
-#[derive(Clone, Copy)]
+#[derive(Clone, Copy, Debug, PartialEq, Eq)]
 pub struct PiParser(pub bool);
 
 impl PiParser {
@@ -42,8 +41,6 @@ impl Parser for PiParser {
     ghost scan = { pi };
 
     ghost prefix = { Machines.prefix pi_step pi_due };
-
-    ghost faults = { Machines.faults pi_step pi_due pi_faults };
 
     fn feed(&mut self, bytes: &[u8]) -> Option<usize> {
         for (i, b) in bytes.iter().enumerate() {

@@ -1,8 +1,9 @@
-ghost use Rattle.std.specs.Prelude.{◌≡◌, ℕ, List, [], map, None};
-ghost use Rattle.parser.specs.Runs.{told, Written};
+ghost use Rattle.std.specs.Prelude.{◌≡◌, ℕ, List, [], map, IfOk, None};
+ghost use Rattle.parser.specs.Runs.{told};
 
 use crate::errors::SyntaxError;
 use crate::parser::Parser;
+use std::alloc::{AllocError, Global};
 
 // What a scanner tells of a run.
 #[derive(Clone, Copy, Debug, PartialEq, Eq)]
@@ -13,30 +14,27 @@ pub enum Scanned {
     Open(SyntaxError),
 }
 
-// Feeds the runs one after another, up to the one with the stop, and writes what the scanner tells of each to the front of
-// `answers`, as many as there is room for: just what it means for all bytes so far, wherever they were cut. Gives how many are
-// written. `content` is the piece from its `<`.
+// Feeds the runs one after another, up to the one with the stop, and gives what the scanner tells of each: just what it means
+// for all bytes so far, wherever they were cut. `content` is the piece from its `<`.
 pub fn feed_runs<P: Parser + Copy>(
+    heap: Global,
     mut parser: P,
     runs: &[&[u8]],
     content: &[u8],
-    answers: &mut [Scanned],
-) -> usize
-    ensures { Written (told (scan parser) content.now [] (map (λ x. x.now) runs.now)) answers.old result answers.new }
+) -> Result<Vec<Scanned>, AllocError>
+    ensures { IfOk result (λ v. v.items ≡ told (scan parser) content.now [] (map (λ x. x.now) runs.now)) }
 {
-    for (i, run) in runs.iter().enumerate() {
-        if i >= answers.len() {
-            return i;
-        }
+    let mut given = Vec::new(heap);
+    for run in runs {
         match parser.feed(*run) {
             Some(place) => {
-                answers[i] = Scanned::Stop(place);
-                return i + 1;
+                given.push(Scanned::Stop(place))?;
+                return Ok(given);
             }
-            None => answers[i] = Scanned::Open(parser.eof_error(content)),
+            None => given.push(Scanned::Open(parser.eof_error(content)))?,
         }
     }
-    runs.len()
+    Ok(given)
 }
 
 // An empty run has no stop, and changes nothing of what the scanner means.

@@ -1,6 +1,8 @@
 ghost use Rattle.std.specs.Prelude.{◌≡◌, length, IfErr, Ok, Err};
-ghost use Rattle.model.specs.Call.{outcome, admitted, reads, text_reading};
+ghost use Rattle.parser.specs.declared.errors.SyntaxError.TheVariants.{UnclosedTag};
+ghost use Rattle.model.specs.Call.{outcome, admitted, refusal, reads, text_reading};
 ghost use Rattle.model.specs.declared.ending.Pending.TheVariants as pending;
+ghost use Rattle.errors.specs.declared.Error.TheVariants.{Syntax as syntax_error};
 ghost use Rattle.reader.specs.State.{state_of};
 ghost use Rattle.piece.specs.Calls.{PieceContinues};
 ghost use Rattle.piece.specs.Next.{of_text, of_ref, of_refused, of_with, of_bang, Spends, Opened, by_byte, at_markup, nexts, next_told, bang_kind as bang_kind_of};
@@ -93,6 +95,13 @@ fn bang_piece(
     }
 }
 
+// A `<` with nothing behind it.
+fn lone_opening() -> Refusal
+    ensures { result ≡ refusal (syntax_error UnclosedTag) 0 1 }
+{
+    taken_opening(Error::Syntax(SyntaxError::UnclosedTag))
+}
+
 // The piece that begins with `<` and the byte behind it.
 fn opened_piece<S: Source>(
     reader: &mut Reader<S>,
@@ -101,8 +110,8 @@ fn opened_piece<S: Source>(
     buf: &mut [u8],
     patience: u32,
 ) -> Result<Option<Piece>, Refusal>
-    requires { Opened (state_of stream reader.old) (length buf.old) b }
-    ensures { outcome result (state_of stream reader.new) buf.new ≡ by_byte buf.old patience b token (state_of stream reader.old) }
+    requires { Opened (state_of S.Source.stream reader.old) (length buf.old) b }
+    ensures { outcome result (state_of S.Source.stream reader.new) buf.new ≡ by_byte buf.old patience b token (state_of S.Source.stream reader.old) }
 {
     match b {
         b'!' => bang_piece(reader.read_bang_element(token, buf, patience)),
@@ -124,11 +133,11 @@ fn markup_piece<S: Source>(
     patience: u32,
 ) -> Result<Option<Piece>, Refusal>
     requires { Ok tt ≡ admitted reader.old.position (length buf.old) pending.Nothing reader.old.opening 2 }
-    ensures { outcome result (state_of stream reader.new) buf.new ≡ at_markup buf.old patience (state_of stream reader.old) }
+    ensures { outcome result (state_of S.Source.stream reader.new) buf.new ≡ at_markup buf.old patience (state_of S.Source.stream reader.old) }
 {
     match reader.peek_one(patience)? {
         Peeked::Byte(b, token) => opened_piece(reader, b, token, buf, patience),
-        Peeked::Nothing => Err(taken_opening(Error::Syntax(SyntaxError::UnclosedTag))),
+        Peeked::Nothing => Err(lone_opening()),
     }
 }
 
@@ -138,7 +147,7 @@ fn read_text<S: Source>(
     buf: &mut [u8],
     patience: u32,
 ) -> Result<ReadText, Refusal>
-    ensures { outcome result (state_of stream reader.new) buf.new ≡ reads text_reading (state_of stream reader.old) buf.old patience }
+    ensures { outcome result (state_of S.Source.stream reader.new) buf.new ≡ reads text_reading (state_of S.Source.stream reader.old) buf.old patience }
 {
     reader.read_text(buf, patience)
 }
@@ -148,7 +157,7 @@ fn next_piece_inner<S: Source>(
     buf: &mut [u8],
     patience: u32,
 ) -> Result<Option<Piece>, Refusal>
-    ensures { outcome result (state_of stream reader.new) buf.new ≡ nexts (state_of stream reader.old) buf.old patience }
+    ensures { outcome result (state_of S.Source.stream reader.new) buf.new ≡ nexts (state_of S.Source.stream reader.old) buf.old patience }
 {
     if let Err(error) = admit(
         reader.position(),
@@ -175,8 +184,8 @@ pub fn next_piece<S: Source>(
     buf: &mut [u8],
     patience: u32,
 ) -> Result<Option<Piece>, Refusal>
-    ensures does { outcome result (state_of stream reader.new) buf.new ≡ nexts (state_of stream reader.old) buf.old patience }
-    ensures report { PieceContinues (state_of stream reader.old) (outcome result (state_of stream reader.new) buf.new) }
+    ensures does { outcome result (state_of S.Source.stream reader.new) buf.new ≡ nexts (state_of S.Source.stream reader.old) buf.old patience }
+    ensures report { PieceContinues (state_of S.Source.stream reader.old) (outcome result (state_of S.Source.stream reader.new) buf.new) }
 {
     next_piece_inner(reader, buf, patience)
 }

@@ -3,7 +3,7 @@ use Rattle.std.proofs.Common.{◌≡◌, ℕ, zero, suc, ◌+◌, ◌-◌, ◌^�
 use lib.Seq.{take-append_seam}
 use Rattle.std.specs.Option.{ok_or}
 use Rattle.source.specs.declared.fault.Fault.{Fault}
-use Rattle.source.specs.Stream.{Item, Tail, end, fault, bytes_in, bytes_of, waits_in}
+use Rattle.source.specs.Stream.{Item, Tail, end, fault, bytes_in, bytes_of}
 use Rattle.parser.specs.Scan.{Verdict, stop, unclosed, Meaning, Prefix}
 use Rattle.bang.specs.CData.{cdata_step, cdata_due}
 use Rattle.bang.specs.Comment.{bang_comment_step, bang_comment_due}
@@ -40,7 +40,7 @@ use Rattle.model.specs.declared.answer.Told.{Told}
 use Rattle.errors.specs.declared.Error.{Error}
 use Rattle.errors.specs.declared.Error.TheVariants.{Position, BufferTooLong, BufferTooShort, Patience, Io, FirstByte, BufferFull, Syntax, Utf8}
 use Rattle.quick.specs.QuickXml.{Returned, returned, place, text_of, at_tail, first, appending, text_by, ref_by, rust_read_ref, rust_peek_one, scan_by, rust_read_with, bang_new, bang_by, rust_read_bang_element}
-use Rattle.quick.specs.Answers.{plain_answer, plain_turned, plain_peeked, AnswersAs, TextAsQuickXml, RefAsQuickXml, PeekAsQuickXml, WithAsQuickXml, BangAsQuickXml}
+use Rattle.quick.specs.Answers.{plain_answer, plain_turned, plain_peeked, waits, AnswersAs, TextAsQuickXml, RefAsQuickXml, PeekAsQuickXml, WithAsQuickXml, BangAsQuickXml}
 use Rattle.quick.proofs.Cuts.{place_inside, behind-before, behind_through, text_sought, text_end_at, text_cut_by, text_cut-place, name_sought, name_end_at, name_cut_by, name_cut-place}
 use Rattle.quick.proofs.Gathers.{cut_length, Inside, cut_ending, piece, gather_cuts_in, await-behind}
 
@@ -82,7 +82,7 @@ module _ {A B E : Type 0} (plain : B → Result A Error) (told : B → Told) (an
   }
 
   -- by the cut, with the bytes bs among the items
-  module _ (so_far : List ℕ) (p : ℕ) (is : List Item) (bs : List ℕ) (same : bytes_in is ≡ bs) (patient : waits_in is ≤ p)
+  module _ (so_far : List ℕ) (p : ℕ) (is : List Item) (bs : List ℕ) (same : bytes_in is ≡ bs) (patient : waits is ≤ p)
       (count : length so_far + length bs ≡ length (bytes_of s.stream) + ahead) (short : ahead ≤ length so_far) where
     abbrev pub gathering : Cut E → Outcome B
     gathering c = answered (gather c (length buf) so_far p is s.stream.tail)
@@ -130,7 +130,7 @@ text_tells w (Failed f) = err_tells text_told (λ _. (refl, refl)) (length w) (I
 text_tells w Worn = err_tells text_told (λ _. (refl, refl)) (length w) Patience
 text_tells w Full = err_tells text_told (λ _. (refl, refl)) (length w) BufferFull
 
-module _ (s : State) (buf : List ℕ) (p : ℕ) (patient : waits_in s.stream.items ≤ p) where
+module _ (s : State) (buf : List ℕ) (p : ℕ) (patient : waits s.stream.items ≤ p) where
   abbrev text_from : Cut TextEnd → Outcome (Result ReadText Refusal)
   text_from c = read_piece text_reading s buf p (gather c (length buf) [] p s.stream.items s.stream.tail)
 
@@ -187,7 +187,7 @@ ref_tells w (Failed f) = err_tells ref_told (λ _. (refl, refl)) (length w) (Io 
 ref_tells w Worn = err_tells ref_told (λ _. (refl, refl)) (length w) Patience
 ref_tells w Full = err_tells ref_told (λ _. (refl, refl)) (length w) BufferFull
 
-module _ (s : State) (buf : List ℕ) (p : ℕ) (patient : waits_in s.stream.items ≤ p) where
+module _ (s : State) (buf : List ℕ) (p : ℕ) (patient : waits s.stream.items ≤ p) where
   abbrev ref_from : Cut RefEnd → Outcome (Result ReadRef Refusal)
   ref_from c = read_piece ref_reading s buf p (gather c (length buf) [] p s.stream.items s.stream.tail)
 
@@ -266,7 +266,7 @@ module _ {A B : Type 0} (plain : B → Result A Error) (told : B → Told) (answ
     (tells : (w : List ℕ) (e : Ending (Result (Unit {0}) SyntaxError)) → Tells (told (answer w e)) (length w) (length w - 1))
     (f : ℕ → A) (ends : (w : List ℕ) → plain (answer w (Ended (Ok tt))) ≡ text_of f w) (unended : (w : List ℕ) (e : SyntaxError) → plain (answer w (Ended (Err e))) ≡ Err (Syntax e))
     (fails : (w : List ℕ) (x : Fault) → plain (answer w (Failed x)) ≡ Err (Io x)) (s : State) (buf : List ℕ) where
-  scan_as : (v : Verdict) (pushed : List ℕ) (p : ℕ) (is : List Item) (bs : List ℕ) → bytes_in is ≡ bs → waits_in is ≤ p
+  scan_as : (v : Verdict) (pushed : List ℕ) (p : ℕ) (is : List Item) (bs : List ℕ) → bytes_in is ≡ bs → waits is ≤ p
       → length pushed + length bs ≡ length (bytes_of s.stream) + 1 → 1 ≤ length pushed → ((k : ℕ) → v ≡ stop k → k < length bs)
       → length (scan_by v pushed f bs s.stream.tail s.position).bytes ≤ length buf
       → AnswersAs plain told s (scan_by v pushed f bs s.stream.tail s.position) (answered plain told answer 1 tells s buf (gather (verdict_cut v) (length buf) pushed p is s.stream.tail))
@@ -342,7 +342,7 @@ module _ {T : Type 0} (token : T) where
   bang_ends (DocType s) = prefix dtd_step dtd_due s
 
   -- behind the `!`
-  module _ (s : State) (buf : List ℕ) (is : List Item) (q : ℕ) (bs : List ℕ) (same : bytes_in is ≡ bs) (patient : waits_in is ≤ q) (count : suc (length bs) ≡ length (bytes_of s.stream)) where
+  module _ (s : State) (buf : List ℕ) (is : List Item) (q : ℕ) (bs : List ℕ) (same : bytes_in is ≡ bs) (patient : waits is ≤ q) (count : suc (length bs) ≡ length (bytes_of s.stream)) where
     bang_stuck_as : (e : Error) → AnswersAs plain_turned bang_told s (returned (Err e) (60 ∷ 33 ∷ []) s.position bs) (bang_stuck token s buf bang_prefix 1 e is)
     bang_stuck_as e = record { answer = refl; written = refl; front = refl; taken = omega arith; position = refl; left = same; tail = refl }
 

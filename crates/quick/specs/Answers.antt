@@ -1,6 +1,6 @@
 -- That a call answers as quick-xml's does.
 use Rattle.std.specs.Prelude.{◌≡◌, ℕ, suc, ◌+◌, ◌^◌, ◌<◌, ◌≤◌, true, ◌⊎◌, List, [], ◌∷◌, length, take, is_some, Some, None, Ok, Err, Option, Result}
-use Rattle.source.specs.Stream.{Tail, bytes_of, waits_in}
+use Rattle.source.specs.Stream.{Item, byte, wait, Tail, bytes_of}
 use Rattle.parser.specs.Scan.{Meaning, Prefix}
 use Rattle.model.specs.Told.{text_told, ref_told, peek_told, with_told, bang_told}
 use Rattle.model.specs.Call.{State, Outcome, reads, text_reading, ref_reading, with_reading}
@@ -34,12 +34,17 @@ module _ {T : Type 0} where
   plain_peeked (Ok Nothing) = Ok None
   plain_peeked (Err r) = Err r.error
 
+abbrev pub waits : List Item → ℕ
+waits [] = 0
+waits (byte b ∷ is) = waits is
+waits (wait ∷ is) = suc (waits is)
+
 -- what quick-xml does not run out of: numbers for the position, room for what is appended, and patience
 pub record Enough (s : State) (buf : List ℕ) (patience : ℕ) (appended : List ℕ) : Type 0 where
   pub counts : s.position < 2 ^ 63
   pub size : length buf ≤ 16777216
   pub room : length appended ≤ length buf
-  pub patient : waits_in s.stream.items ≤ patience
+  pub patient : waits s.stream.items ≤ patience
 
 -- the outcome of a call from the state s is what quick-xml returned
 pub record AnswersAs {A B : Type 0} (plain : B → Result A Error) (told : B → Told) (s : State) (r : Returned A) (o : Outcome B) : Type 0 where

@@ -4,7 +4,10 @@ ghost use Rattle.model.specs.Bang.{bangs};
 ghost use Rattle.model.specs.Gather.{gather as gathering};
 ghost use Rattle.source.specs.Stream.{bytes_of};
 ghost use Rattle.model.specs.Peek.{await, peeks, abandons};
-ghost use Rattle.reader.specs.Calls.{ReadsText, ReadsRef, Peeks, ReadsWith, ReadsBang, Abandons};
+ghost use Rattle.model.specs.History.{Continues, event, read_text, read_ref, peek_one, read_with, read_bang_element, abandon};
+ghost use Rattle.quick.specs.Answers.{AsQuickXmlText, AsQuickXmlRef, AsQuickXmlPeek, AsQuickXmlWith, AsQuickXmlBang};
+ghost use Rattle.split.specs.Awaits.{PeekCall, BangCall};
+ghost use Rattle.split.specs.Reads.{PieceCall};
 ghost use Rattle.reader.specs.Peeked.{peeked_taken, left_behind};
 ghost use Rattle.reader.specs.State.{state_of, gathers, Leaves, the_token};
 
@@ -15,7 +18,7 @@ use answers::{
 };
 use errors::Error;
 use gather::{Cutter, Reference, Scanner, Text, await_byte, bang_type, gather};
-use model::{BangKind, Ending, Peeked, Pending, ReadRef, ReadText, Refusal, Refused};
+use model::{Answer, BangKind, Ending, Peeked, Pending, ReadRef, ReadText, Refusal, Refused};
 use parser::Parser;
 use source::Source;
 
@@ -30,7 +33,7 @@ pub struct Reader<S> {
 
 impl<S: Source> Reader<S> {
     pub fn new(source: S, start: u64) -> Reader<S>
-        ensures { state_of stream result ≡ state (stream source) start None }
+        ensures { state_of S.Source.stream result ≡ state (S.Source.stream source) start None }
     {
         Reader {
             source,
@@ -41,35 +44,44 @@ impl<S: Source> Reader<S> {
 
     // The bytes counted so far, from the start position on.
     pub fn position(&self) -> u64
-        ensures { result ≡ (state_of stream self.now).position }
+        ensures { result ≡ (state_of S.Source.stream self.now).position }
     {
         self.position
     }
 
     // The byte behind a `<` that was peeked and is pending.
     pub fn opening(&self) -> Option<u8>
-        ensures { result ≡ (state_of stream self.now).opening }
+        ensures { result ≡ (state_of S.Source.stream self.now).opening }
     {
         self.opening
     }
 
     // Takes the bytes before the next `<`, `&` or the end.
     pub fn read_text(&mut self, buf: &mut [u8], patience: u32) -> Result<ReadText, Refusal>
-        ensures { ReadsText (state_of stream self.old) buf.old patience (outcome result (state_of stream self.new) buf.new) }
+        ensures does { outcome result (state_of S.Source.stream self.new) buf.new ≡ reads text_reading (state_of S.Source.stream self.old) buf.old patience }
+        ensures report { Continues the_token (state_of S.Source.stream self.old) (event (read_text buf.old patience) (Answer.Text result) buf.new) (state_of S.Source.stream self.new) }
+        ensures piece { PieceCall text_reading (state_of S.Source.stream self.old) buf.old patience (outcome result (state_of S.Source.stream self.new) buf.new) }
+        ensures quick { AsQuickXmlText (state_of S.Source.stream self.old) buf.old patience (outcome result (state_of S.Source.stream self.new) buf.new) }
     {
         self.read_text_inner(buf, patience)
     }
 
     // Takes `&`, then all through the next `;`, or before the next `&`, `<` or the end.
     pub fn read_ref(&mut self, buf: &mut [u8], patience: u32) -> Result<ReadRef, Refusal>
-        ensures { ReadsRef (state_of stream self.old) buf.old patience (outcome result (state_of stream self.new) buf.new) }
+        ensures does { outcome result (state_of S.Source.stream self.new) buf.new ≡ reads ref_reading (state_of S.Source.stream self.old) buf.old patience }
+        ensures report { Continues the_token (state_of S.Source.stream self.old) (event (read_ref buf.old patience) (Answer.Ref result) buf.new) (state_of S.Source.stream self.new) }
+        ensures piece { PieceCall ref_reading (state_of S.Source.stream self.old) buf.old patience (outcome result (state_of S.Source.stream self.new) buf.new) }
+        ensures quick { AsQuickXmlRef (state_of S.Source.stream self.old) buf.old patience (outcome result (state_of S.Source.stream self.new) buf.new) }
     {
         self.read_ref_inner(buf, patience)
     }
 
     // Takes `<`, and answers the byte behind it, which stays, with a token for the opening that is then pending.
     pub fn peek_one(&mut self, patience: u32) -> Result<Peeked<OpeningToken>, Refusal>
-        ensures { Peeks (state_of stream self.old) patience (outcome result (state_of stream self.new) []) }
+        ensures does { outcome result (state_of S.Source.stream self.new) [] ≡ peeks the_token (state_of S.Source.stream self.old) patience }
+        ensures report { Continues the_token (state_of S.Source.stream self.old) (event (peek_one patience) (Answer.Peek result) []) (state_of S.Source.stream self.new) }
+        ensures piece { PeekCall the_token (state_of S.Source.stream self.old) patience (outcome result (state_of S.Source.stream self.new) []) }
+        ensures quick { AsQuickXmlPeek (state_of S.Source.stream self.old) patience (outcome result (state_of S.Source.stream self.new) []) }
     {
         self.peek_one_inner(patience)
     }
@@ -82,7 +94,10 @@ impl<S: Source> Reader<S> {
         buf: &mut [u8],
         patience: u32,
     ) -> Result<usize, Refused<OpeningToken>>
-        ensures { ReadsWith token (scan parser) (state_of stream self.old) buf.old patience (outcome result (state_of stream self.new) buf.new) }
+        ensures does { outcome result (state_of S.Source.stream self.new) buf.new ≡ reads (with_reading token (P.Parser.scan parser)) (state_of S.Source.stream self.old) buf.old patience }
+        ensures report { Continues the_token (state_of S.Source.stream self.old) (event (read_with token (P.Parser.scan parser) buf.old patience) (Answer.With result) buf.new) (state_of S.Source.stream self.new) }
+        ensures piece { PieceCall (with_reading token (P.Parser.scan parser)) (state_of S.Source.stream self.old) buf.old patience (outcome result (state_of S.Source.stream self.new) buf.new) }
+        ensures quick { AsQuickXmlWith (P.Parser.scan parser) (state_of S.Source.stream self.old) buf.old patience (outcome result (state_of S.Source.stream self.new) buf.new) }
     {
         self.read_with_inner(token, parser, buf, patience)
     }
@@ -94,14 +109,18 @@ impl<S: Source> Reader<S> {
         buf: &mut [u8],
         patience: u32,
     ) -> Result<(BangKind, usize), Refused<OpeningToken>>
-        ensures { ReadsBang token (state_of stream self.old) buf.old patience (outcome result (state_of stream self.new) buf.new) }
+        ensures does { outcome result (state_of S.Source.stream self.new) buf.new ≡ bangs token (state_of S.Source.stream self.old) buf.old patience }
+        ensures report { Continues the_token (state_of S.Source.stream self.old) (event (read_bang_element token buf.old patience) (Answer.Bang result) buf.new) (state_of S.Source.stream self.new) }
+        ensures piece { BangCall token (state_of S.Source.stream self.old) buf.old patience (outcome result (state_of S.Source.stream self.new) buf.new) }
+        ensures quick { AsQuickXmlBang (state_of S.Source.stream self.old) buf.old patience (outcome result (state_of S.Source.stream self.new) buf.new) }
     {
         self.read_bang_element_inner(token, buf, patience)
     }
 
     // Drops the pending opening.
     pub fn abandon(&mut self, token: OpeningToken) -> Result<(), Refused<OpeningToken>>
-        ensures { Abandons token (state_of stream self.old) (outcome result (state_of stream self.new) []) }
+        ensures does { outcome result (state_of S.Source.stream self.new) [] ≡ abandons token (state_of S.Source.stream self.old) }
+        ensures report { Continues the_token (state_of S.Source.stream self.old) (event (abandon token) (Answer.Abandon result) []) (state_of S.Source.stream self.new) }
     {
         self.abandon_inner(token)
     }
@@ -119,8 +138,8 @@ impl<S: Source> Reader<S> {
         requires within { at ≤ length buf.old }
         requires position { self.old.position < 2 ^ 63 }
         requires size { length buf.old ≤ 16777216 }
-        ensures does { outcome result (state_of stream self.new) buf.new ≡ gathers (state_of stream self.old) buf.old (cuts cutter) (front at buf.old) patience }
-        ensures leaves { Leaves (state_of stream self.old) buf.old (gathering (cuts cutter (bytes_of (stream self.old.source))) (length buf.old) (front at buf.old) patience (stream self.old.source).items (stream self.old.source).tail) result.0 result.1 (state_of stream self.new) buf.new }
+        ensures does { outcome result (state_of S.Source.stream self.new) buf.new ≡ gathers (state_of S.Source.stream self.old) buf.old (C.Cutter.cuts cutter) (front at buf.old) patience }
+        ensures leaves { Leaves (state_of S.Source.stream self.old) buf.old (gathering (C.Cutter.cuts cutter (bytes_of (S.Source.stream self.old.source))) (length buf.old) (front at buf.old) patience (S.Source.stream self.old.source).items (S.Source.stream self.old.source).tail) result.0 result.1 (state_of S.Source.stream self.new) buf.new }
         ensures grows { at ≤ result.0 }
         ensures fits { result.0 ≤ length buf.old }
     {
@@ -131,7 +150,7 @@ impl<S: Source> Reader<S> {
     }
 
     fn read_text_inner(&mut self, buf: &mut [u8], patience: u32) -> Result<ReadText, Refusal>
-        ensures { outcome result (state_of stream self.new) buf.new ≡ reads text_reading (state_of stream self.old) buf.old patience }
+        ensures { outcome result (state_of S.Source.stream self.new) buf.new ≡ reads text_reading (state_of S.Source.stream self.old) buf.old patience }
     {
         if let Err(error) = admit(self.position, buf.len(), Pending::Nothing, self.opening, 0) {
             return Err(untouched(error));
@@ -141,7 +160,7 @@ impl<S: Source> Reader<S> {
     }
 
     fn read_ref_inner(&mut self, buf: &mut [u8], patience: u32) -> Result<ReadRef, Refusal>
-        ensures { outcome result (state_of stream self.new) buf.new ≡ reads ref_reading (state_of stream self.old) buf.old patience }
+        ensures { outcome result (state_of S.Source.stream self.new) buf.new ≡ reads ref_reading (state_of S.Source.stream self.old) buf.old patience }
     {
         if let Err(error) = admit(self.position, buf.len(), Pending::Nothing, self.opening, 1) {
             return Err(untouched(error));
@@ -157,7 +176,7 @@ impl<S: Source> Reader<S> {
         buf: &mut [u8],
         patience: u32,
     ) -> Result<usize, Refused<OpeningToken>>
-        ensures { outcome result (state_of stream self.new) buf.new ≡ reads (with_reading token (scan parser)) (state_of stream self.old) buf.old patience }
+        ensures { outcome result (state_of S.Source.stream self.new) buf.new ≡ reads (with_reading token (P.Parser.scan parser)) (state_of S.Source.stream self.old) buf.old patience }
     {
         if let Err(error) = admit(self.position, buf.len(), Pending::Opening, self.opening, 1) {
             return Err(Refused::Kept(error, token));
@@ -169,7 +188,7 @@ impl<S: Source> Reader<S> {
     }
 
     fn peek_one_inner(&mut self, patience: u32) -> Result<Peeked<OpeningToken>, Refusal>
-        ensures { outcome result (state_of stream self.new) [] ≡ peeks the_token (state_of stream self.old) patience }
+        ensures { outcome result (state_of S.Source.stream self.new) [] ≡ peeks the_token (state_of S.Source.stream self.old) patience }
     {
         if let Err(error) = admit(self.position, 0, Pending::Nothing, self.opening, 0) {
             return Err(untouched(error));
@@ -194,8 +213,8 @@ impl<S: Source> Reader<S> {
 
     // Takes the byte that was peeked: the patience left. That byte stands first, so no wait is passed.
     fn take_peeked(&mut self, patience: u32) -> Result<u32, Error>
-        ensures value { result ≡ peeked_taken (await patience (stream self.old.source).items (stream self.old.source).tail) }
-        ensures after { state_of stream self.new ≡ left_with (state_of stream self.old) (left_behind (await patience (stream self.old.source).items (stream self.old.source).tail)) self.old.position None }
+        ensures value { result ≡ peeked_taken (await patience (S.Source.stream self.old.source).items (S.Source.stream self.old.source).tail) }
+        ensures after { state_of S.Source.stream self.new ≡ left_with (state_of S.Source.stream self.old) (left_behind (await patience (S.Source.stream self.old.source).items (S.Source.stream self.old.source).tail)) self.old.position None }
     {
         self.opening = None;
         let (first, left) = await_byte(&mut self.source, patience);
@@ -212,7 +231,7 @@ impl<S: Source> Reader<S> {
         buf: &mut [u8],
         patience: u32,
     ) -> Result<(BangKind, usize), Refused<OpeningToken>>
-        ensures { outcome result (state_of stream self.new) buf.new ≡ bangs token (state_of stream self.old) buf.old patience }
+        ensures { outcome result (state_of S.Source.stream self.new) buf.new ≡ bangs token (state_of S.Source.stream self.old) buf.old patience }
     {
         if let Err(error) = admit(self.position, buf.len(), Pending::Bang, self.opening, 2) {
             return Err(Refused::Kept(error, token));
@@ -234,7 +253,7 @@ impl<S: Source> Reader<S> {
     }
 
     fn abandon_inner(&mut self, token: OpeningToken) -> Result<(), Refused<OpeningToken>>
-        ensures { outcome result (state_of stream self.new) [] ≡ abandons token (state_of stream self.old) }
+        ensures { outcome result (state_of S.Source.stream self.new) [] ≡ abandons token (state_of S.Source.stream self.old) }
     {
         if let Err(error) = pends(Pending::Opening, self.opening) {
             return Err(Refused::Kept(error, token));

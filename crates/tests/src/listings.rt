@@ -12,6 +12,17 @@ fn listing(heap: Global, report: &[u8]) -> Result<String, AllocError> {
     Ok(text)
 }
 
+#[test]
+fn small_report(rt: HostRuntime) -> Result<(), Fail> {
+    let text = listing(rt.alloc(), b"<a>5&lt;</a>")?;
+    assert!(rt; text.as_str() == "tag\t0\t3\ntext\t3\t1\nref\t4\t4\ntag\t8\t4\nend\t12\t0\n");
+    let none = listing(rt.alloc(), b"")?;
+    assert!(rt; none.as_str() == "end\t0\t0\n");
+    let broken = listing(rt.alloc(), b"<a>\xc3\x28")?;
+    assert!(rt; broken.as_str() == "tag\t0\t3\nfault\t3\t19\n");
+    Ok(())
+}
+
 // Reports and their listings: every kind of piece, and every refusal that can close a listing but the quota's.
 const LISTINGS: [(&[u8], &str); 23] = [
     (b"", "end\t0\t0\n"),
@@ -68,5 +79,20 @@ fn quota_met_and_passed(rt: HostRuntime) -> Result<(), Fail> {
     report.push(b'a')?;
     let more = listing(rt.alloc(), report.as_slice())?;
     assert!(rt; more.as_str() == "fault\t0\t7\n");
+    Ok(())
+}
+
+// How a listing closes where a construct has no end.
+#[test]
+fn closing_faults(rt: HostRuntime) -> Result<(), Fail> {
+    let heap = rt.alloc();
+    assert!(rt; listing(heap, b"<!x")?.as_str() == "fault\t0\t9\n");
+    assert!(rt; listing(heap, b"<?x")?.as_str() == "fault\t0\t11\n");
+    assert!(rt; listing(heap, b"<?xml ")?.as_str() == "fault\t0\t12\n");
+    assert!(rt; listing(heap, b"<!-- -")?.as_str() == "fault\t0\t13\n");
+    assert!(rt; listing(heap, b"<!DOCTYPE a [")?.as_str() == "fault\t0\t14\n");
+    assert!(rt; listing(heap, b"<![CDATA[]]")?.as_str() == "fault\t0\t15\n");
+    assert!(rt; listing(heap, b"<a b='>")?.as_str() == "fault\t0\t17\n");
+    assert!(rt; listing(heap, b"<a b=\">")?.as_str() == "fault\t0\t18\n");
     Ok(())
 }

@@ -1,13 +1,19 @@
-use Rattle.parser.proofs.Feeds.{turned_none, turned_more}
+use Rattle.std.proofs.Common.{is_ok, vec_items, sym, ap, ◌∙◌, subst}
+use Rattle.std.proofs.ResultArms.{chosen}
+use Rattle.parser.proofs.Feeds.{Sofar, held, turn_stop, turn_open, turns_over}
 use Rattle.parser.proofs.runs.feed_runs.Goals as goal
 
-pub loop-i-init : goal.loop-i-init
-loop-i-init g c = turned_none (g.P.Parser.scan c.args.parser) c.args.content.now c.args.runs.now c.args.answers.now
-
 pub returns-in-Some : goal.returns-in-Some
-returns-in-Some g c = c.loop-i.invariant.stops (g.P.Parser.scan c.feed.new.self) c.in-Some.place _ c.loop-i-test.true c.if-i-answers.false c.in-Some.ensures
+returns-in-Some g c =
+    chosen _ _ _ _ c.push.ensures.items (ap is_ok c.in-ok-push.was)
+    ∙ turn_stop (g.P.Parser.scan c.args.parser) (g.P.Parser.scan c.loop-run.parser) (g.P.Parser.scan c.feed.new.self) c.args.content.now c.args.runs.now c.loop-run.run_index (vec_items c.loop-run.given) c.loop-run.invariant c.loop-run-test.true _ c.in-Some.place c.in-Some.ensures
 
-pub loop-i-preserved : goal.loop-i-preserved
-loop-i-preserved g c =
-    turned_more (g.P.Parser.scan c.args.parser) c.args.content.now c.args.runs.now c.args.answers.now (g.P.Parser.scan c.loop-i.parser) (g.P.Parser.scan c.feed.new.self) c.loop-i.i c.loop-i.answers _ c.eof-error.result
-    c.loop-i.invariant c.loop-i-test.true c.if-i-answers.false c.in-None.ensures c.eof-error.ensures
+pub loop-run-preserved : goal.loop-run-preserved
+loop-run-preserved g c =
+    subst
+    (Sofar (g.P.Parser.scan c.args.parser) (g.P.Parser.scan c.feed.new.self) c.args.content.now (held c.args.runs.now) _)
+    (sym (chosen _ _ _ _ c.push-in-None.ensures.items (ap is_ok c.in-ok-push-2.was)))
+    (turn_open (g.P.Parser.scan c.args.parser) (g.P.Parser.scan c.loop-run.parser) (g.P.Parser.scan c.feed.new.self) c.args.content.now c.args.runs.now c.loop-run.run_index (vec_items c.loop-run.given) c.loop-run.invariant c.loop-run-test.true _ c.eof-error.result c.in-None.ensures c.eof-error.ensures)
+
+pub returns : goal.returns
+returns g c = turns_over (g.P.Parser.scan c.args.parser) (g.P.Parser.scan c.loop-run.parser) c.args.content.now c.args.runs.now c.loop-run.run_index (vec_items c.loop-run.given) c.loop-run.invariant c.loop-run-test.false

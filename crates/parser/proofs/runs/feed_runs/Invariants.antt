@@ -1,5 +1,6 @@
-use Rattle.parser.proofs.Feeds.{Turned}
+use Rattle.std.proofs.Common.{vec_items}
+use Rattle.parser.proofs.Feeds.{Sofar, held}
 use Rattle.parser.proofs.runs.feed_runs.Given as goal
 
-abbrev pub invariant-loop-i : goal.invariant-loop-i
-invariant-loop-i g l = Turned (g.P.Parser.scan l.initial.parser) (g.P.Parser.scan l.parser) l.content l.runs l.initial.answers l.i l.answers
+abbrev pub invariant-loop-run : goal.invariant-loop-run
+invariant-loop-run g l = Sofar (g.P.Parser.scan l.initial.parser) (g.P.Parser.scan l.parser) l.content (held l.runs) l.run-index (vec_items l.given)
