@@ -2,7 +2,7 @@
 use Rattle.std.proofs.Common.{◌≡◌, ℕ, zero, suc, ◌-◌, ◌<◌, ◌≤◌, List, [], ◌∷◌, ◌++◌, map, length, take, drop, sym, refl, ap, ◌∙◌, arith}
 use Rattle.std.proofs.lemmas.List.{drop-map}
 use Rattle.source.specs.declared.fault.Fault.{Fault}
-use Rattle.source.specs.declared.fault.Look.TheVariants.{Ready, End}
+use Rattle.source.specs.declared.fault.Look.TheVariants.{Ready}
 use Rattle.source.specs.Stream.{Item, byte, wait, Tail, end, fault, Stream, lead, bytes_in, plain, within, tail_within, limited, seen, seen_in, passed, passed_in, without}
 
 pub bytes_plain : (xs : List ℕ) → bytes_in (map byte xs) ≡ xs
@@ -28,11 +28,7 @@ lead-drop (suc n) [] h = absurd (omega arith)
 lead-drop (suc n) (byte b ∷ is) h = let e = lead-drop n is (omega arith) in omega arith
 lead-drop (suc n) (wait ∷ is) h = absurd (omega arith)
 
--- a slice with no byte, and one with some
-pub seen_empty : (xs : List ℕ) → length xs ≡ 0 → seen (plain xs) ≡ End
-seen_empty [] h = refl
-seen_empty (x ∷ xs) h = absurd (omega arith)
-
+-- a slice with some byte
 pub seen_some : (xs : List ℕ) → 0 < length xs → seen (plain xs) ≡ Ready
 seen_some [] h = absurd (omega arith)
 seen_some (x ∷ xs) h = refl

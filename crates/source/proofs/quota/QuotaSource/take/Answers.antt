@@ -1,4 +1,4 @@
-use Rattle.std.proofs.Common.{◌-◌, ◌≤◌, min, sym, arith}
+use Rattle.std.proofs.Common.{◌≤◌, min, sym, arith}
 use Rattle.std.proofs.lemmas.Bool.{le-leb, leb-true}
 use Rattle.source.specs.Stream.{lead}
 use Rattle.source.specs.declared.fault.Fault.TheVariants.{Quota}
