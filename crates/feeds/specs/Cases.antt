@@ -1,6 +1,6 @@
 -- What a line means as a case of a scanner.
-use Rattle.std.specs.Prelude.{ℕ, true, false, cond, List, [], ◌∷◌, map, Some, None, vec_items, codes, Option, Vec}
-use Rattle.std.specs.Borrow.{MutBor}
+use Rattle.std.specs.Prelude.{ℕ, true, false, cond, List, [], ◌∷◌, map, Some, vec_items, codes, Option, Vec}
+use Rattle.std.specs.Borrow.{Bor}
 use Rattle.std.specs.Str.{bytes_eq}
 use Rattle.bang.specs.Bang.{bang_type}
 use Rattle.parser.specs.Pi.{after_question}
@@ -44,7 +44,7 @@ scanner_of name state =
     (bound (bang_of name) (λ s. Some (Bang s))))))
 
 -- the id, the scanner, and the runs as they are written
-abbrev pub meant_fields : (MutBor (List ℕ) × Scanner × MutBor (List ℕ)) → (List ℕ × Scanner × List ℕ)
+abbrev pub meant_fields : (Bor (List ℕ) × Scanner × Bor (List ℕ)) → (List ℕ × Scanner × List ℕ)
 meant_fields f = (f.0.now, f.1, f.2.now)
 
 abbrev pub fields_of : List ℕ → Option (List ℕ × Scanner × List ℕ)

@@ -2,15 +2,12 @@
 use Rattle.std.proofs.Common.{◌≡◌, ℕ, ◌+◌, ◌-◌, ◌<◌, ◌≤◌, Bool, true, false, cond, ltb, List, [], ◌∷◌, ◌++◌, length, take, sym, refl, ap, ◌∙◌, append_assoc, arith, length-append, ltb-false, ltb-true}
 use Rattle.std.specs.List.{flat_map}
 use Rattle.std.proofs.lemmas.List.{take-append-le}
-use Rattle.parser.specs.Scan.{Verdict, stop, unclosed, later, Meaning, Prefix}
-use Rattle.parser.specs.Bytes.{Move, halt, goes, machine}
+use Rattle.parser.specs.Scan.{Verdict, stop, unclosed, Meaning, Prefix}
 use Rattle.parser.specs.Runs.{told}
 use Rattle.parser.specs.declared.errors.SyntaxError.{SyntaxError}
 use Rattle.parser.specs.declared.runs.Scanned.{Scanned}
 use Rattle.parser.specs.declared.runs.Scanned.TheVariants.{Stop, Open}
-use Rattle.parser.specs.Machines.{machine-cons}
 use Rattle.grammar.specs.Cut.{stops_at}
-use Rattle.grammar.proofs.Walks.{Machine}
 
 module _ (m : Meaning) (content : List ℕ) (fault : SyntaxError) (prefix : Prefix m) (due : (xs : List ℕ) (d : List ℕ → SyntaxError) → m xs ≡ unclosed d → d content ≡ fault) where
   abbrev Told : List ℕ → List (List ℕ) → Type 0

@@ -22,7 +22,7 @@ pub fn feed_runs<P: Parser + Copy>(
     runs: &[&[u8]],
     content: &[u8],
 ) -> Result<Vec<Scanned>, AllocError>
-    ensures { IfOk result (λ v. v.items ≡ told (scan parser) content.now [] (map (λ x. x.now) runs.now)) }
+    ensures { IfOk result (λ v. v.items ≡ told (P.scan parser) content.now [] (map (λ x. x.now) runs.now)) }
 {
     let mut given = Vec::new(heap);
     for run in runs {
@@ -40,7 +40,7 @@ pub fn feed_runs<P: Parser + Copy>(
 // An empty run has no stop, and changes nothing of what the scanner means.
 pub fn feed_nothing<P: Parser>(parser: &mut P) -> Option<usize>
     ensures none { result ≡ None }
-    ensures same { (ys : List ℕ) → scan parser.new ys ≡ scan parser.old ys }
+    ensures same { (ys : List ℕ) → P.scan parser.new ys ≡ P.scan parser.old ys }
 {
     parser.feed(b"")
 }

@@ -10,19 +10,19 @@ use Rattle.grammar.proofs.Commented.{cut_anywhere, cut_commented, cut_in_comment
 use Rattle.grammar.proofs.doctype.Goals as goal
 
 -- what holds of a list holds of a value that has it for its items
-of-items : {V E : Type 0} (items : V → List Scanned) (r : Result V E) (l : List Scanned) (Q : List Scanned → Type 0) → IfOk r (λ v. items v ≡ l) → Q l → IfOk r (λ v. Q (items v))
-of-items items r l Q given q = IfOk-weaker r (λ v. items v ≡ l) (λ v. Q (items v)) (λ v e. subst Q (sym e) q) given
+of_items : {V E : Type 0} (items : V → List Scanned) (r : Result V E) (l : List Scanned) (Q : List Scanned → Type 0) → IfOk r (λ v. items v ≡ l) → Q l → IfOk r (λ v. Q (items v))
+of_items items r l Q given q = IfOk-weaker r (λ v. items v ≡ l) (λ v. Q (items v)) (λ v e. subst Q (sym e) q) given
 
 pub returns : goal.returns
 returns c =
     let content = c.args.content.now in
     let runs = map (λ x. x.now) c.args.runs.now in
-    let given = subst (λ s. IfOk c.feed-runs.result (λ v. vec_items v ≡ told (dtd s) content [] runs)) c.default.ensures.fresh c.feed-runs.ensures in
-    let so = of-items vec_items c.feed-runs.result (told (dtd Before) content [] runs) in
+    let given = subst (λ s. IfOk c.feed_runs.result (λ v. vec_items v ≡ told (dtd s) content [] runs)) c.default.ensures.fresh c.feed_runs.ensures in
+    let so = of_items vec_items c.feed_runs.result (told (dtd Before) content [] runs) in
     record {
       given = given;
       anywhere = so (CutAnywhere Doctypedecl runs) given (cut_anywhere content runs);
       commented = so (CutAnywhere Commented runs) given (cut_commented content runs);
-      in-comment = so (CutInComment runs) given (cut_in_comment content runs);
+      in_comment = so (CutInComment runs) given (cut_in_comment content runs);
       holds = commented;
     }

@@ -8,4 +8,4 @@ use Rattle.grammar.proofs.instruction.Goals as goal
 pub returns : goal.returns
 returns c =
     let fresh = c.default.ensures.fresh in
-    record { fresh = fresh; from-question = subst (λ s. Ends (pi s) 1 PI) (sym fresh) pi_ends_whole; past-question = subst (λ s. Ends (pi s) 2 PI) (sym fresh) pi_ends }
+    record { fresh = fresh; from_question = subst (λ s. Ends (pi s) 1 PI) (sym fresh) pi_ends_whole; past_question = subst (λ s. Ends (pi s) 2 PI) (sym fresh) pi_ends }

@@ -5,5 +5,5 @@ use Rattle.cases.proofs.words.pairs.Goals as goal
 pub loop-digits-preserved : goal.loop-digits-preserved
 loop-digits-preserved c =
     let ds = c.loop-digits.digits.now in
-    subst (PairTurn c.args.text.now (take (length ds - 2) (drop 2 ds))) (sym c.in-ok-push.ensures.items)
+    subst (PairTurn c.args.text.now (take (length ds - 2) (drop 2 ds))) (sym c.in_ok-push.ensures.items)
     (pair_next c.args.text.now ds (vec_items c.loop-digits.bytes) c.loop-digits.invariant c.loop-digits-test.true c.in-Some.byte (sym c.in-Some.ensures))

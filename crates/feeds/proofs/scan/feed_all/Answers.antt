@@ -9,12 +9,12 @@ returns-in-Some g c =
     let old = g.P.Parser.scan c.args.parser in
     let m = g.P.Parser.scan c.loop-run.parser in
     let new = g.P.Parser.scan c.feed.new.self in
-    let fed = subst (λ l. Fed m new l (Some c.in-Some.place)) c.as-slice.ensures.value c.in-Some.ensures in
+    let fed = subst (λ l. Fed m new l (Some c.in-Some.place)) c.as_slice.ensures.value c.in-Some.ensures in
     record {
       places =
-          chosen _ _ _ _ c.push.ensures.items (ap is_ok c.in-ok-push.was)
-          ∙ stop_here vec_items old c.args.content.now c.args.runs.now m c.loop-run.run_index (vec_items c.loop-run.places) c.loop-run.invariant c.loop-run-test.true c.run-item.result c.run-item.is new c.in-Some.place fed;
-      fault = no_fault vec_items old c.args.content.now c.args.runs.now m c.loop-run.run_index (vec_items c.loop-run.places) c.loop-run.invariant c.loop-run-test.true c.run-item.result c.run-item.is new c.in-Some.place fed;
+          chosen _ _ _ _ c.push.ensures.items (ap is_ok c.in_ok-push-in-Some.was)
+          ∙ stop_here vec_items old c.args.content.now c.args.runs.now m c.loop-run.run-index (vec_items c.loop-run.places) c.loop-run.invariant c.loop-run-test.true c.run-item.result c.run-item.is new c.in-Some.place fed;
+      fault = no_fault vec_items old c.args.content.now c.args.runs.now m c.loop-run.run-index (vec_items c.loop-run.places) c.loop-run.invariant c.loop-run-test.true c.run-item.result c.run-item.is new c.in-Some.place fed;
     }
 
 pub loop-run-preserved : goal.loop-run-preserved
@@ -22,15 +22,15 @@ loop-run-preserved g c =
     let old = g.P.Parser.scan c.args.parser in
     let m = g.P.Parser.scan c.loop-run.parser in
     let new = g.P.Parser.scan c.feed.new.self in
-    let fed = subst (λ l. Fed m new l None) c.as-slice.ensures.value c.in-None.ensures in
-    subst (Turn vec_items old c.args.content.now c.args.runs.now new _) (sym (chosen _ _ _ _ c.push-in-None.ensures.items (ap is_ok c.in-ok-push-2.was)))
-    (next vec_items old c.args.content.now c.args.runs.now m c.loop-run.run_index (vec_items c.loop-run.places) c.loop-run.invariant c.loop-run-test.true c.run-item.result c.run-item.is new fed)
+    let fed = subst (λ l. Fed m new l None) c.as_slice.ensures.value c.in-None.ensures in
+    subst (Turn vec_items old c.args.content.now c.args.runs.now new _) (sym (chosen _ _ _ _ c.push-in-None.ensures.items (ap is_ok c.in_ok-push-in-None.was)))
+    (next vec_items old c.args.content.now c.args.runs.now m c.loop-run.run-index (vec_items c.loop-run.places) c.loop-run.invariant c.loop-run-test.true c.run-item.result c.run-item.is new fed)
 
 pub returns : goal.returns
 returns g c =
     let old = g.P.Parser.scan c.args.parser in
     let m = g.P.Parser.scan c.loop-run.parser in
     record {
-      places = all_places vec_items old c.args.content.now c.args.runs.now m c.loop-run.run_index (vec_items c.loop-run.places) c.loop-run.invariant c.loop-run-test.false;
-      fault = last_fault vec_items old c.args.content.now c.args.runs.now m c.loop-run.run_index (vec_items c.loop-run.places) c.loop-run.invariant c.loop-run-test.false c.eof-error.result c.eof-error.ensures;
+      places = all_places vec_items old c.args.content.now c.args.runs.now m c.loop-run.run-index (vec_items c.loop-run.places) c.loop-run.invariant c.loop-run-test.false;
+      fault = last_fault vec_items old c.args.content.now c.args.runs.now m c.loop-run.run-index (vec_items c.loop-run.places) c.loop-run.invariant c.loop-run-test.false c.eof_error.result c.eof_error.ensures;
     }
