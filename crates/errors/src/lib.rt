@@ -2,7 +2,7 @@
 #![tactic(auto)]
 
 ghost use Rattle.std.specs.Prelude.{◌≡◌};
-ghost use Rattle.errors.specs.Numbers.{number as number_of_lem};
+ghost use Rattle.errors.specs.Numbers.{number as number_of};
 ghost use Rattle.errors.specs.declared.Error.TheVariants.{Io as io_error, Syntax as syntax_error, Utf8 as utf8_error};
 
 use parser::SyntaxError;
@@ -41,7 +41,7 @@ pub enum Error {
 impl Error {
     // The number under which the rules list this refusal.
     pub fn number(&self) -> u8
-        ensures { result ≡ number_of_lem self.now }
+        ensures { result ≡ number_of self.now }
     {
         match self {
             Error::Position => 1,

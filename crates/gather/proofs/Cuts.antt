@@ -1,12 +1,11 @@
 -- Laws of cuts, and of a cutter's loop over a run.
-use Rattle.std.proofs.Common.{◌≡◌, ℕ, zero, suc, ◌+◌, ◌-◌, ◌<◌, ◌≤◌, Bool, true, false, ltb, List, [], ◌∷◌, ◌++◌, length, get_or, take, drop, Some, None, Ok, Err, sym, refl, ap, ◌∙◌, subst, arith}
+use Rattle.std.proofs.Common.{◌≡◌, ℕ, zero, suc, ◌+◌, ◌-◌, ◌<◌, ◌≤◌, Bool, true, false, ltb, List, ◌∷◌, ◌++◌, length, get_or, drop, Some, None, Ok, Err, sym, refl, ap, ◌∙◌, arith}
 use lib.Seq.{take-append-le}
 use Rattle.std.proofs.lemmas.List.{drop_more, drop_all}
 use Rattle.std.proofs.lemmas.Bool.{ltb-true, ltb-false}
 use Rattle.parser.specs.Scan.{Verdict, stop, unclosed, answer, less, Meaning, Prefix, Fed}
 use Rattle.model.specs.Cut.{Cut, before, through, nowhere, behind_one, behind, verdict_cut, scan_cut}
 use Rattle.gather.specs.Scanned.{Scanned}
-use Rattle.gather.specs.declared.cutter.Scan.{Scan}
 use Rattle.gather.specs.declared.cutter.Scan.TheVariants.{Open, Before, Through}
 
 module _ {E : Type 0} where

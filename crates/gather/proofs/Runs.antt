@@ -1,5 +1,5 @@
 -- What a run adds to a gathering.
-use Rattle.std.proofs.Common.{◌≡◌, ℕ, zero, suc, ◌+◌, ◌-◌, ◌<◌, ◌≤◌, Bool, true, false, cond, ltb, leb, List, [], ◌∷◌, ◌++◌, map, length, get_or, take, drop, Some, None, Ok, Option, sym, refl, ap, ◌∙◌, append_assoc, append-nil, arith, length-append}
+use Rattle.std.proofs.Common.{◌≡◌, ℕ, zero, suc, ◌+◌, ◌-◌, ◌<◌, ◌≤◌, true, false, leb, List, [], ◌∷◌, ◌++◌, map, length, get_or, take, drop, Some, Ok, Option, sym, refl, ap, ◌∙◌, append_assoc, append-nil, arith, length-append}
 use lib.Seq.{append_snoc}
 use Rattle.std.proofs.lemmas.List.{drop_more, drop_all, drop-drop, take_more, length-take-le, length-drop}
 use Rattle.std.proofs.lemmas.Bool.{cond_both, leb-true, leb-false, lt-ltb, le-ltb}

@@ -1,5 +1,5 @@
 -- What read_bang_element does.
-use Rattle.std.specs.Prelude.{ℕ, ◌+◌, ◌-◌, List, [], ◌∷◌, length, drop, Some, None, Ok, Err, Option, Result}
+use Rattle.std.specs.Prelude.{ℕ, ◌+◌, List, [], ◌∷◌, length, drop, Some, None, Ok, Err, Option, Result}
 use Rattle.source.specs.Stream.{Item, bytes_in}
 use Rattle.bang.specs.Bang.{bang, bang_type}
 use Rattle.bang.specs.declared.bang.BangType.{BangType}

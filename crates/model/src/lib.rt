@@ -7,3 +7,4 @@ mod told;
 
 pub use answer::{Answer, BangKind, Peeked, ReadRef, ReadText, Refusal, Refused, Told};
 pub use ending::{Ending, Pending, RefEnd, TextEnd};
+pub use errors::Error;

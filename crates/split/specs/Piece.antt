@@ -1,5 +1,5 @@
 -- What a piece is: how the call that gathers it splits the items of the source, and why it ends there.
-use Rattle.std.specs.Prelude.{◌≡◌, ℕ, suc, ◌<◌, ◌≤◌, List, [], ◌∷◌, ◌++◌, length}
+use Rattle.std.specs.Prelude.{◌≡◌, ℕ, ◌<◌, ◌≤◌, List, [], ◌∷◌, ◌++◌, length}
 use Rattle.source.specs.declared.fault.Fault.{Fault as SourceFault}
 use Rattle.source.specs.Stream.{Item, byte, wait, Tail, end, fault, bytes_in, waits_in}
 use Rattle.model.specs.Cut.{Cut, before, through, nowhere}

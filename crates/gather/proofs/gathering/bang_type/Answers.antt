@@ -1,6 +1,6 @@
-use Rattle.std.proofs.Common.{◌≡◌, get_or, Some, Ok, Err, sym, refl, ap, ◌∙◌}
+use Rattle.std.proofs.Common.{◌≡◌, Err, sym, refl, ap, ◌∙◌}
 use Rattle.source.proofs.Streams.{passed_ready}
-use Rattle.model.specs.Peek.{Awaited, await, awaited}
+use Rattle.model.specs.Peek.{await}
 use Rattle.gather.specs.Named.{named, known}
 use Rattle.gather.proofs.Runs.{awaits_shown}
 use Rattle.gather.proofs.gathering.bang_type.Goals as goal
@@ -18,7 +18,7 @@ returns-in-None g c =
     ∙ awaits_shown now (g.S.Source.ready c.look.new.self) c.show-run.result.now left (g.S.Source.bounded c.look.new.self)
     c.show-run.ensures.value c.show-run.ensures.len (c.in-Ready.ensures.some refl) in
     record {
-      value = ap (λ e. Err e) c.invalid-bang-in-None.ensures ∙ ap (λ o. known o left) c.in-None.ensures ∙ sym (ap named at);
+      value = ap (λ e. Err e) c.invalid_bang-in-None.ensures ∙ ap (λ o. known o left) c.in-None.ensures ∙ sym (ap named at);
       left = sym (ap (λ a. a.left) at);
       tail = tail;
     }

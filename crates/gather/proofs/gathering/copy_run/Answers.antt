@@ -1,4 +1,4 @@
-use Rattle.std.proofs.Common.{◌≡◌, ℕ, ◌+◌, ◌-◌, ◌<◌, ◌≤◌, true, List, ◌++◌, map, length, take, drop, sym, ap, ◌∙◌, arith, length-append, length-drop, length-take}
+use Rattle.std.proofs.Common.{◌≡◌, ℕ, ◌+◌, ◌-◌, ◌≤◌, true, List, ◌++◌, map, length, take, drop, sym, ap, ◌∙◌, arith, length-append, length-drop, length-take}
 use borrow.Rule.Slice.PartMut.{put_mid}
 use Rattle.std.proofs.lemmas.Bool.{le-leb, cond-true}
 use Rattle.std.proofs.lemmas.List.{drop-append-le, drop-map, length-map}
@@ -22,7 +22,7 @@ returns g c =
     let at = c.args.written in
     let buf : List ℕ = c.args.buf.now in
     let size = length buf in
-    let ys : List ℕ = c.copy-from-slice.new.self in
+    let ys : List ℕ = c.copy_from_slice.new.self in
     let rest = drop ready src.items in
     let bounded = g.S.Source.bounded c.args.source.now in
     let long : length run ≡ ready = c.show-run.ensures.len in
@@ -31,7 +31,7 @@ returns g c =
     let n-run : n ≤ length run = c.fit-n.ensures.within in
     let n_room : n ≤ size - at = c.fit-n.ensures.room in
     let at_in : at ≤ size = c.requires.within in
-    let copied : ys ≡ take n run = c.copy-from-slice.ensures.after ∙ ap (λ k. take k run) (omega arith) in
+    let copied : ys ≡ take n run = c.copy_from_slice.ensures.after ∙ ap (λ k. take k run) (omega arith) in
     let yes : c.take.result ≡ true = c.take.ensures.answer ∙ le-leb n ready (omega arith) in
     let taken = c.take.ensures.after ∙ cond-true c.take.result (without n src) src yes in
     let items : (g.S.Source.stream c.take.new.self).items ≡ map byte (drop n run) ++ rest =

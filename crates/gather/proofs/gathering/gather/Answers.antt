@@ -1,4 +1,4 @@
-use Rattle.std.proofs.Common.{◌≡◌, ℕ, ◌≤◌, min, Bool, true, false, leb, List, length, take, drop, sym, refl, ap, ◌∙◌, arith}
+use Rattle.std.proofs.Common.{◌≡◌, ℕ, min, Bool, true, false, leb, List, length, take, sym, refl, ap, ◌∙◌, arith}
 use Rattle.std.proofs.lemmas.List.{take_all}
 use Rattle.std.proofs.lemmas.Bool.{leb-true, leb-false}
 use Rattle.source.proofs.Streams.{passed_ready}
@@ -30,7 +30,7 @@ loop-cutter-init g c =
 pub returns-in-Some : goal.returns-in-Some
 returns-in-Some g c =
     let inv = c.loop-cutter.invariant in
-    let run = c.copy-run-end.ensures in
+    let run = c.copy_run-end.ensures in
     let same = c.look.ensures.after ∙ passed_ready (g.S.Source.stream c.loop-cutter.source) c.in-Ready.ensures.answer in
     let tail = ap (λ s. s.tail) same ∙ inv.1 in
     let long : length c.loop-cutter.buf ≡ length c.args.buf.now = c.loop-cutter.auto.buf in
@@ -39,21 +39,21 @@ returns-in-Some g c =
       all = inv.0 ∙ goes;
       tail = run.tail ∙ tail;
       fits = omega arith;
-      rest = run.rest ∙ drop-further c.loop-cutter.written c.copy-run-end.result.0 c.loop-cutter.buf c.args.buf.now run.grows inv.3;
+      rest = run.rest ∙ drop-further c.loop-cutter.written c.copy_run-end.result.0 c.loop-cutter.buf c.args.buf.now run.grows inv.3;
       grows = λ h. let before = inv.4 h in omega arith;
     }
 
 pub loop-cutter-preserved : goal.loop-cutter-preserved
 loop-cutter-preserved g c =
     let inv = c.loop-cutter.invariant in
-    let run = c.copy-run-end.ensures in
+    let run = c.copy_run-end.ensures in
     let same = c.look.ensures.after ∙ passed_ready (g.S.Source.stream c.loop-cutter.source) c.in-Ready.ensures.answer in
     let tail = ap (λ s. s.tail) same ∙ inv.1 in
     let long : length c.loop-cutter.buf ≡ length c.args.buf.now = c.loop-cutter.auto.buf in
-    let goes = rw (same, inv.1, long, c.in-default.is) at (run.goes c.loop-cutter.left) in (
+    let goes = rw (same, inv.1, long, c.in_default.is) at (run.goes c.loop-cutter.left) in (
       inv.0 ∙ goes,
       run.tail ∙ tail,
       omega arith,
-      run.rest ∙ drop-further c.loop-cutter.written c.copy-run-end.result.0 c.loop-cutter.buf c.args.buf.now run.grows inv.3,
+      run.rest ∙ drop-further c.loop-cutter.written c.copy_run-end.result.0 c.loop-cutter.buf c.args.buf.now run.grows inv.3,
       λ h. let before = inv.4 h in omega arith,
     )

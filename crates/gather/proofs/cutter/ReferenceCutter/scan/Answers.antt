@@ -1,7 +1,7 @@
-use Rattle.std.proofs.Common.{true, rules}
+use Rattle.std.proofs.Common.{rules}
 use Rattle.model.specs.Cut.{ref_from}
 use Rattle.model.specs.declared.ending.RefEnd.TheVariants.{Semicolon, Markup, Ref, NotRef}
-use Rattle.gather.proofs.Cuts.{seen_none, seen_keep, seen-before, seen_through, seen_end}
+use Rattle.gather.proofs.Cuts.{seen_keep, seen-before, seen_through, seen_end}
 use Rattle.gather.proofs.cutter.ReferenceCutter.scan.Goals as goal
 
 pub returns-in-true-eq59 : goal.returns-in-true-eq59

@@ -1,7 +1,7 @@
 use Rattle.std.proofs.Common.{rules}
 use Rattle.model.specs.Cut.{text_cut}
 use Rattle.model.specs.declared.ending.TextEnd.TheVariants.{Markup, Ref}
-use Rattle.gather.proofs.Cuts.{seen_none, seen_keep, seen-before, seen_end}
+use Rattle.gather.proofs.Cuts.{seen_keep, seen-before, seen_end}
 use Rattle.gather.proofs.cutter.TextCutter.scan.Goals as goal
 
 pub returns-in-60 : goal.returns-in-60
