@@ -1,2 +1,3 @@
+pub mod Token
 pub mod State
 pub mod Peeked

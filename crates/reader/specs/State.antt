@@ -6,7 +6,7 @@ use Rattle.model.specs.Gather.{Gathered, gather}
 use Rattle.model.specs.Call.{State, state, left_with, Outcome, outcome, over}
 use Rattle.model.specs.declared.ending.Ending.{Ending}
 use Rattle.reader.specs.declared.reader.Reader.{Reader}
-use Rattle.reader.specs.declared.token.OpeningToken.{OpeningToken}
+use Rattle.reader.specs.Token.{OpeningToken}
 
 -- the state of a reader, where `stream` says what its source means
 abbrev pub state_of : {S : Type 0} → (S → Stream) → Reader S → State

@@ -4,5 +4,6 @@
 mod reader;
 mod token;
 
+pub use answers::admit;
 pub use reader::Reader;
-pub use token::OpeningToken;
+pub use token::{OpeningToken, Token};

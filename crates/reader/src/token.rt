@@ -1,29 +1,34 @@
-ghost use Rattle.std.specs.Prelude.{◌≡◌};
+ghost use Rattle.std.specs.Prelude.{◌≡◌, false};
 ghost use Rattle.reader.specs.State.{the_token};
 
-// Stands for a `<` that was peeked and is pending. Only peek_one makes one, and only read_with, read_bang_element and abandon
-// spend one: its field is private, and it can not be let go.
-pub struct OpeningToken {
+// Stands for a `<` that was peeked, and says whether that opening is still pending. Its field is private.
+pub struct Token<const PENDING: bool> {
     seal: (),
 }
 
-// Nothing meets this contract, so a program that forgets a token is not proved.
-impl Drop for OpeningToken {
+// The token of a pending opening. Only peek_one makes one, and only read_with, read_bang_element and abandon spend one: it can
+// not be let go.
+pub type OpeningToken = Token<true>;
+
+// Nothing meets this contract at a token of a pending opening, so a program that forgets one is not proved.
+impl<const PENDING: bool> Drop for Token<PENDING> {
     fn drop(self)
-        requires { ⊥ }
+        requires { PENDING ≡ false }
     {
-        let OpeningToken { seal: _ } = self;
+        let Token { seal: _ } = self;
     }
 }
 
-impl OpeningToken {
+impl Token<true> {
     pub(crate) fn new() -> OpeningToken
         ensures { result ≡ the_token }
     {
-        OpeningToken { seal: () }
+        Token { seal: () }
     }
 
+    // The opening is no longer pending, so what is left of the token may be let go.
     pub(crate) fn spend(self) {
-        let OpeningToken { seal: _ } = self;
+        let Token { seal } = self;
+        let _spent: Token<false> = Token { seal };
     }
 }

@@ -10,7 +10,7 @@ use Rattle.model.specs.History.{Call as ModelCall, read_with, does}
 use Rattle.model.specs.declared.answer.Answer.{Answer}
 use Rattle.laws.proofs.Agrees.{call_agrees}
 use Rattle.reader.specs.State.{the_token}
-use Rattle.reader.specs.declared.token.OpeningToken.{OpeningToken}
+use Rattle.reader.specs.Token.{OpeningToken}
 use Rattle.twins.specs.Calls.{buffered, call_of, performs, SameCall, both_read_text, both_read_ref, both_peek_one, both_read_with, both_read_bang_element, both_abandon, AlikeOutcomes}
 use Rattle.twins.specs.declared.call.Call.{Call}
 use Rattle.twins.specs.declared.call.Call.TheVariants.{ReadText, ReadRef, PeekOne, ReadWith, ReadBangElement, Abandon}

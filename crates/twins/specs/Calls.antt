@@ -6,7 +6,7 @@ use Rattle.model.specs.Call.{State, Outcome, outcome}
 use Rattle.model.specs.History.{Call as ModelCall, read_text, read_ref, peek_one, read_with, read_bang_element, abandon, does}
 use Rattle.model.specs.declared.answer.Answer.{Answer}
 use Rattle.reader.specs.State.{the_token}
-use Rattle.reader.specs.declared.token.OpeningToken.{OpeningToken}
+use Rattle.reader.specs.Token.{OpeningToken}
 use Rattle.twins.specs.declared.call.Call.{Call}
 use Rattle.twins.specs.declared.call.Call.TheVariants.{ReadText, ReadRef, PeekOne, ReadWith, ReadBangElement, Abandon}
 

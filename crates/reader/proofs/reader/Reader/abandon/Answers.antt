@@ -7,7 +7,7 @@ use Rattle.reader.proofs.reader.Reader.abandon.Goals as goal
 
 pub returns : goal.returns
 returns g c = record {
-  does = c.abandon-inner.ensures;
+  does = c.abandon_inner.ensures;
   report = continues the_token (state_of g.S.Source.stream c.args.self.now) (abandon c.args.token)
-      (Abandon c.abandon-inner.result) (state_of g.S.Source.stream c.abandon-inner.new.self) [] (ap (answering Abandon) c.abandon-inner.ensures);
+      (Abandon c.abandon_inner.result) (state_of g.S.Source.stream c.abandon_inner.new.self) [] (ap (answering Abandon) c.abandon_inner.ensures);
 }

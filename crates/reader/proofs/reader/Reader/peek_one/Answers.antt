@@ -11,9 +11,9 @@ use Rattle.reader.proofs.reader.Reader.peek_one.Goals as goal
 
 pub returns : goal.returns
 returns g c = record {
-  does = c.peek-one-inner.ensures;
+  does = c.peek_one_inner.ensures;
   report = continues the_token (state_of g.S.Source.stream c.args.self.now) (peek_one c.args.patience)
-      (Peek c.peek-one-inner.result) (state_of g.S.Source.stream c.peek-one-inner.new.self) [] (ap (answering Peek) c.peek-one-inner.ensures);
-  piece = subst (PeekCall _ _ _) (sym c.peek-one-inner.ensures) (peeks-first _ _ _);
-  quick = subst (AsQuickXmlPeek (state_of g.S.Source.stream c.args.self.now) c.args.patience) (sym c.peek-one-inner.ensures) (peek_as the_token (state_of g.S.Source.stream c.args.self.now) c.args.patience);
+      (Peek c.peek_one_inner.result) (state_of g.S.Source.stream c.peek_one_inner.new.self) [] (ap (answering Peek) c.peek_one_inner.ensures);
+  piece = subst (PeekCall _ _ _) (sym c.peek_one_inner.ensures) (peeks-first _ _ _);
+  quick = subst (AsQuickXmlPeek (state_of g.S.Source.stream c.args.self.now) c.args.patience) (sym c.peek_one_inner.ensures) (peek_as the_token (state_of g.S.Source.stream c.args.self.now) c.args.patience);
 }

@@ -11,9 +11,9 @@ use Rattle.reader.proofs.reader.Reader.read_bang_element.Goals as goal
 
 pub returns : goal.returns
 returns g c = record {
-  does = c.read-bang-element-inner.ensures;
+  does = c.read_bang_element_inner.ensures;
   report = continues the_token (state_of g.S.Source.stream c.args.self.now) (read_bang_element c.args.token c.args.buf.now c.args.patience)
-      (Bang c.read-bang-element-inner.result) (state_of g.S.Source.stream c.read-bang-element-inner.new.self) c.read-bang-element-inner.new.buf (ap (answering Bang) c.read-bang-element-inner.ensures);
-  piece = subst (BangCall _ _ _ _) (sym c.read-bang-element-inner.ensures) (bangs_one_piece _ _ _ _);
-  quick = subst (AsQuickXmlBang (state_of g.S.Source.stream c.args.self.now) c.args.buf.now c.args.patience) (sym c.read-bang-element-inner.ensures) (bang_as c.args.token (state_of g.S.Source.stream c.args.self.now) c.args.buf.now c.args.patience);
+      (Bang c.read_bang_element_inner.result) (state_of g.S.Source.stream c.read_bang_element_inner.new.self) c.read_bang_element_inner.new.buf (ap (answering Bang) c.read_bang_element_inner.ensures);
+  piece = subst (BangCall _ _ _ _) (sym c.read_bang_element_inner.ensures) (bangs_one_piece _ _ _ _);
+  quick = subst (AsQuickXmlBang (state_of g.S.Source.stream c.args.self.now) c.args.buf.now c.args.patience) (sym c.read_bang_element_inner.ensures) (bang_as c.args.token (state_of g.S.Source.stream c.args.self.now) c.args.buf.now c.args.patience);
 }

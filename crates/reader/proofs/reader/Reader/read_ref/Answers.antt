@@ -12,9 +12,9 @@ use Rattle.reader.proofs.reader.Reader.read_ref.Goals as goal
 
 pub returns : goal.returns
 returns g c = record {
-  does = c.read-ref-inner.ensures;
+  does = c.read_ref_inner.ensures;
   report = continues the_token (state_of g.S.Source.stream c.args.self.now) (read_ref c.args.buf.now c.args.patience)
-      (Ref c.read-ref-inner.result) (state_of g.S.Source.stream c.read-ref-inner.new.self) c.read-ref-inner.new.buf (ap (answering Ref) c.read-ref-inner.ensures);
-  piece = subst (PieceCall ref_reading _ _ _) (sym c.read-ref-inner.ensures) (refs_one_piece _ _ _);
-  quick = subst (AsQuickXmlRef (state_of g.S.Source.stream c.args.self.now) c.args.buf.now c.args.patience) (sym c.read-ref-inner.ensures) (ref_as (state_of g.S.Source.stream c.args.self.now) c.args.buf.now c.args.patience);
+      (Ref c.read_ref_inner.result) (state_of g.S.Source.stream c.read_ref_inner.new.self) c.read_ref_inner.new.buf (ap (answering Ref) c.read_ref_inner.ensures);
+  piece = subst (PieceCall ref_reading _ _ _) (sym c.read_ref_inner.ensures) (refs_one_piece _ _ _);
+  quick = subst (AsQuickXmlRef (state_of g.S.Source.stream c.args.self.now) c.args.buf.now c.args.patience) (sym c.read_ref_inner.ensures) (ref_as (state_of g.S.Source.stream c.args.self.now) c.args.buf.now c.args.patience);
 }

@@ -12,9 +12,9 @@ use Rattle.reader.proofs.reader.Reader.read_text.Goals as goal
 
 pub returns : goal.returns
 returns g c = record {
-  does = c.read-text-inner.ensures;
+  does = c.read_text_inner.ensures;
   report = continues the_token (state_of g.S.Source.stream c.args.self.now) (read_text c.args.buf.now c.args.patience)
-      (Text c.read-text-inner.result) (state_of g.S.Source.stream c.read-text-inner.new.self) c.read-text-inner.new.buf (ap (answering Text) c.read-text-inner.ensures);
-  piece = subst (PieceCall text_reading _ _ _) (sym c.read-text-inner.ensures) (texts_one_piece _ _ _);
-  quick = subst (AsQuickXmlText (state_of g.S.Source.stream c.args.self.now) c.args.buf.now c.args.patience) (sym c.read-text-inner.ensures) (text_as (state_of g.S.Source.stream c.args.self.now) c.args.buf.now c.args.patience);
+      (Text c.read_text_inner.result) (state_of g.S.Source.stream c.read_text_inner.new.self) c.read_text_inner.new.buf (ap (answering Text) c.read_text_inner.ensures);
+  piece = subst (PieceCall text_reading _ _ _) (sym c.read_text_inner.ensures) (texts_one_piece _ _ _);
+  quick = subst (AsQuickXmlText (state_of g.S.Source.stream c.args.self.now) c.args.buf.now c.args.patience) (sym c.read_text_inner.ensures) (text_as (state_of g.S.Source.stream c.args.self.now) c.args.buf.now c.args.patience);
 }

@@ -12,9 +12,9 @@ use Rattle.reader.proofs.reader.Reader.read_with.Goals as goal
 
 pub returns : goal.returns
 returns g c = record {
-  does = c.read-with-inner.ensures;
+  does = c.read_with_inner.ensures;
   report = continues the_token (state_of g.S.Source.stream c.args.self.now) (read_with c.args.token (g.P.Parser.scan c.args.parser) c.args.buf.now c.args.patience)
-      (With c.read-with-inner.result) (state_of g.S.Source.stream c.read-with-inner.new.self) c.read-with-inner.new.buf (ap (answering With) c.read-with-inner.ensures);
-  piece = subst (PieceCall (with_reading _ _) _ _ _) (sym c.read-with-inner.ensures) (scans_one_piece _ _ (g.met.P.Parser.prefix c.args.parser) _ _ _);
-  quick = subst (AsQuickXmlWith (g.P.Parser.scan c.args.parser) (state_of g.S.Source.stream c.args.self.now) c.args.buf.now c.args.patience) (sym c.read-with-inner.ensures) (with_as c.args.token (g.P.Parser.scan c.args.parser) (g.met.P.Parser.prefix c.args.parser) (state_of g.S.Source.stream c.args.self.now) c.args.buf.now c.args.patience);
+      (With c.read_with_inner.result) (state_of g.S.Source.stream c.read_with_inner.new.self) c.read_with_inner.new.buf (ap (answering With) c.read_with_inner.ensures);
+  piece = subst (PieceCall (with_reading _ _) _ _ _) (sym c.read_with_inner.ensures) (scans_one_piece _ _ (g.met.P.Parser.prefix c.args.parser) _ _ _);
+  quick = subst (AsQuickXmlWith (g.P.Parser.scan c.args.parser) (state_of g.S.Source.stream c.args.self.now) c.args.buf.now c.args.patience) (sym c.read_with_inner.ensures) (with_as c.args.token (g.P.Parser.scan c.args.parser) (g.met.P.Parser.prefix c.args.parser) (state_of g.S.Source.stream c.args.self.now) c.args.buf.now c.args.patience);
 }
