@@ -1,5 +1,5 @@
 -- What is written of a line: three fields, with tabs (9) between them.
-use Rattle.std.specs.Prelude.{ℕ, List, [], ◌∷◌, ◌++◌, codes, decimal}
+use Rattle.std.specs.Prelude.{ℕ, List, ◌++◌, codes, decimal}
 use Rattle.piece.specs.declared.kinds.Kind.{Kind}
 use Rattle.piece.specs.declared.kinds.Kind.TheVariants as kind
 use Rattle.listing.specs.declared.line.Line.{Line}

@@ -1,5 +1,5 @@
 -- next_piece is nothing but the reader's calls.
-use Rattle.std.proofs.Common.{◌≡◌, ℕ, zero, suc, ◌+◌, ◌-◌, ◌≤◌, Bool, true, false, cond, eqb, List, [], ◌∷◌, ◌++◌, length, drop, Some, None, Ok, Err, Option, Result, sym, refl, ap, ◌∙◌, subst, append_assoc, append-nil, arith}
+use Rattle.std.proofs.Common.{◌≡◌, ℕ, zero, suc, ◌+◌, ◌≤◌, Bool, true, false, cond, eqb, List, [], ◌∷◌, ◌++◌, length, drop, Some, None, Ok, Err, Option, Result, sym, refl, ap, ◌∙◌, subst, append_assoc, append-nil, arith}
 use Rattle.source.specs.Stream.{Item, bytes_in, bytes_of}
 use Rattle.parser.specs.Scan.{Meaning}
 use Rattle.bang.specs.Bang.{bang, bang_type}
@@ -11,13 +11,12 @@ use Rattle.parser.specs.declared.errors.SyntaxError.{SyntaxError}
 use Rattle.utf8.specs.Utf8.{judged}
 use Rattle.utf8.specs.declared.Utf8Error.{Utf8Error}
 use Rattle.model.specs.Cut.{scan_cut}
-use Rattle.model.specs.Gather.{Gathered, gather}
+use Rattle.model.specs.Gather.{gather}
 use Rattle.model.specs.Call.{State, Outcome, outcome, admitted, finished, chain, checked, with_piece, spending, reads, unless_early, text_reading, ref_reading, with_reading}
-use Rattle.model.specs.Peek.{Awaited, await, peeks}
-use Rattle.model.specs.Bang.{kind_of, with_kind, bang_prefix, bangs, bang_unless, bang_from, bang_first, bang_behind, bang_named}
-use Rattle.model.specs.History.{Event, Call, event, answering, read_text, read_ref, peek_one, read_with, read_bang_element, does, History, fresh, more, Made, told_taken}
+use Rattle.model.specs.Peek.{await, peeks}
+use Rattle.model.specs.Bang.{kind_of, with_kind, bang_prefix, bangs, bang_unless, bang_first, bang_behind, bang_named}
+use Rattle.model.specs.History.{Event, Call, event, answering, read_text, read_ref, peek_one, read_with, read_bang_element, does, History, fresh, more}
 use Rattle.model.specs.Told.{told}
-use Rattle.model.specs.declared.answer.Answer.{Answer}
 use Rattle.model.specs.declared.answer.Answer.TheVariants as answer
 use Rattle.model.specs.declared.answer.ReadText.{ReadText}
 use Rattle.model.specs.declared.answer.ReadText.TheVariants as text
@@ -36,11 +35,11 @@ use Rattle.errors.specs.declared.Error.{Error}
 use Rattle.laws.proofs.Gathers.{gather_grows}
 use Rattle.laws.proofs.Reports.{report_whole}
 use Rattle.reader.specs.State.{the_token}
-use Rattle.reader.specs.declared.token.OpeningToken.{OpeningToken}
+use Rattle.reader.specs.Token.{OpeningToken}
 use Rattle.piece.specs.Next.{Next, next_told, of_text, of_ref, of_with, of_bang, by_byte, behind_opening, at_markup, at_ref, behind_text, next_unless, nexts}
 use Rattle.piece.specs.declared.kinds.Kind.{Kind}
 use Rattle.piece.specs.declared.kinds.Kind.TheVariants.{Tag, Pi}
-use Rattle.piece.specs.Calls.{ByCalls, GoesOn, PieceContinues}
+use Rattle.piece.specs.Calls.{ByCalls, PieceContinues}
 
 -- one history after another
 join : {made s t : State} {es fs : List (Event OpeningToken)} → History the_token made es s → History the_token s fs t → History the_token made (es ++ fs) t

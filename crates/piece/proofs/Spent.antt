@@ -1,6 +1,6 @@
 -- Behind peek_one, read_with and read_bang_element are let through: they spend their token.
-use Rattle.std.proofs.Common.{◌≡◌, ℕ, zero, suc, ◌+◌, ◌-◌, ◌^◌, ◌<◌, ◌≤◌, Bool, true, false, cond, eqb, ltb, leb, List, [], ◌∷◌, ◌++◌, length, drop, IfErr, Some, None, Ok, Err, Option, Result, sym, refl, ap, ◌∙◌, subst, arith, length-append}
-use Rattle.std.proofs.lemmas.Bool.{cond_both, ltb-true, leb-true, lt-ltb, le-leb}
+use Rattle.std.proofs.Common.{◌≡◌, ℕ, zero, suc, ◌^◌, ◌<◌, ◌≤◌, Bool, true, false, cond, eqb, ltb, leb, List, [], ◌∷◌, ◌++◌, length, drop, IfErr, Some, None, Ok, Err, Option, Result, sym, refl, ap, ◌∙◌, subst, arith, length-append}
+use Rattle.std.proofs.lemmas.Bool.{ltb-true, leb-true, lt-ltb, le-leb}
 use Rattle.source.specs.Stream.{Item, byte, wait, Tail, end, fault, bytes_in, bytes_of}
 use Rattle.parser.specs.Scan.{Meaning}
 use Rattle.bang.specs.Bang.{bang, bang_type}
@@ -15,10 +15,9 @@ use Rattle.model.specs.declared.ending.Pending.TheVariants as pending
 use Rattle.model.specs.declared.answer.Peeked.{Peeked}
 use Rattle.model.specs.declared.answer.Peeked.TheVariants.{Byte}
 use Rattle.model.specs.declared.answer.Refusal.{Refusal}
-use Rattle.model.specs.declared.answer.Refused.{Refused}
 use Rattle.errors.specs.declared.Error.{Error}
 use Rattle.errors.specs.declared.Error.TheVariants.{BufferTooShort, BufferTooLong, Position, FirstByte}
-use Rattle.reader.specs.declared.token.OpeningToken.{OpeningToken}
+use Rattle.reader.specs.Token.{OpeningToken}
 use Rattle.piece.specs.Next.{Spends, Opened}
 
 ok_err : {A : Type 0} (e : Error) → ◌≡◌ {A = Result (Unit {0}) Error} (Ok tt) (Err e) → A

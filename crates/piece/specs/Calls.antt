@@ -3,7 +3,7 @@ use Rattle.std.specs.Prelude.{◌≡◌, List, ◌++◌}
 use Rattle.model.specs.Call.{State, Outcome}
 use Rattle.model.specs.History.{Event, History, Made, Whole, told_taken}
 use Rattle.reader.specs.State.{the_token}
-use Rattle.reader.specs.declared.token.OpeningToken.{OpeningToken}
+use Rattle.reader.specs.Token.{OpeningToken}
 use Rattle.piece.specs.Next.{Next, next_told}
 
 -- some calls lead from a reader to the one behind an answer, and their answers tell together what it tells as taken

@@ -1,5 +1,5 @@
 -- What next_piece does: the calls that it makes, one after another.
-use Rattle.std.specs.Prelude.{◌≡◌, ℕ, zero, suc, ◌+◌, ◌^◌, ◌<◌, ◌≤◌, false, cond, List, [], ◌∷◌, length, Some, None, Ok, Err, Option, Result, ◌==◌}
+use Rattle.std.specs.Prelude.{◌≡◌, ℕ, zero, suc, ◌+◌, ◌^◌, ◌<◌, ◌≤◌, false, cond, List, length, Some, None, Ok, Err, Option, Result, ◌==◌}
 use Rattle.parser.specs.Element.{element}
 use Rattle.parser.specs.Pi.{pi, after_question}
 use Rattle.parser.specs.declared.element.ElementParser.TheVariants.{Outside}
@@ -25,7 +25,7 @@ use Rattle.model.specs.declared.ending.Pending.TheVariants as pending
 use Rattle.errors.specs.declared.Error.{Error}
 use Rattle.errors.specs.declared.Error.TheVariants.{Syntax}
 use Rattle.reader.specs.State.{the_token}
-use Rattle.reader.specs.declared.token.OpeningToken.{OpeningToken}
+use Rattle.reader.specs.Token.{OpeningToken}
 use Rattle.piece.specs.declared.kinds.Kind.{Kind}
 use Rattle.piece.specs.declared.kinds.Kind.TheVariants.{Text, Ref, Loose, Tag, Pi, Comment, CData, DocType}
 use Rattle.piece.specs.declared.kinds.Piece.{Piece}

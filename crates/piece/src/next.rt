@@ -54,8 +54,8 @@ fn bang_kind(kind: BangKind) -> Kind
 
 // The refusal of a piece whose `<` peek_one took. Behind peek_one no call hands its token back.
 fn spent(refused: Refused<OpeningToken>) -> Refusal
-    requires { Spends IfErr }
-    ensures { Err result ≡ of_refused IfErr }
+    requires { Spends refused }
+    ensures { Err result ≡ of_refused refused }
 {
     match refused {
         Refused::Spent(refusal) => Refusal {

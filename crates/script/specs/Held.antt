@@ -2,7 +2,7 @@
 use Rattle.std.specs.Prelude.{◌≡◌, ℕ, true, is_some, Some, None, Ok, Err, Option, Result}
 use Rattle.model.specs.declared.answer.Refused.{Refused}
 use Rattle.model.specs.declared.answer.Refused.TheVariants.{Kept, Spent}
-use Rattle.reader.specs.declared.token.OpeningToken.{OpeningToken}
+use Rattle.reader.specs.Token.{OpeningToken}
 
 -- only while an opening is pending
 abbrev pub Held : Option OpeningToken → Option ℕ → Type 0

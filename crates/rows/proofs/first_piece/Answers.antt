@@ -24,8 +24,9 @@ pub returns : goal.returns
 returns c =
     let made : state_of cut_stream c.new-reader.result ≡ state (cut_at c.args.entries.now c.args.bytes.now 0) 0 None =
     c.new-reader.ensures ∙ ap (λ s. state s 0 None) c.new.ensures.stream in
+    let same = c.next_piece-answer.ensures.does ∙ ap (λ s. nexts s c.args.buf.now 0) made in
     record {
-      does = ap (λ n. (c.next-piece-answer.result, n)) c.position.ensures
-          ∙ ap (λ o. (o.answer, o.after.position)) (c.next-piece-answer.ensures.does ∙ ap (λ s. nexts s c.args.buf.now 0) made);
+      does = ap (λ n. (c.next_piece-answer.result, n)) c.position.ensures ∙ ap (λ o. (o.answer, o.after.position)) same;
+      buffer = ap (λ o. o.buffer) same;
       rows = rows;
     }

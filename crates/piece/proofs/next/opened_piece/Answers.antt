@@ -6,17 +6,17 @@ use Rattle.piece.specs.Next.{Spends}
 use Rattle.piece.proofs.Spent.{with_spends, bang_spends}
 use Rattle.piece.proofs.next.opened_piece.Goals as goal
 
-pub bang-piece-requires : goal.bang-piece-requires
-bang-piece-requires g c =
+pub bang_piece-requires : goal.bang_piece-requires
+bang_piece-requires g c =
     subst (λ r. IfErr r Spends) (sym (ap (λ o. o.answer) c.read_bang_element.ensures.does))
     (bang_spends c.args.token (state_of g.S.Source.stream c.args.reader.now) c.args.buf.now c.args.patience c.args.b c.requires c.in-33.is)
 
-pub with-piece-requires : goal.with-piece-requires
-with-piece-requires g c =
+pub with_piece-requires : goal.with_piece-requires
+with_piece-requires g c =
     subst (λ r. IfErr r Spends) (sym (ap (λ o. o.answer) c.read_with.ensures.does))
     (with_spends c.args.token (state_of g.S.Source.stream c.args.reader.now) c.args.buf.now c.args.patience c.args.b c.requires (pi c.default.result))
 
-pub with-piece-requires-in-default : goal.with-piece-requires-in-default
-with-piece-requires-in-default g c =
-    subst (λ r. IfErr r Spends) (sym (ap (λ o. o.answer) c.read-with-in-default.ensures.does))
-    (with_spends c.args.token (state_of g.S.Source.stream c.args.reader.now) c.args.buf.now c.args.patience c.args.b c.requires (element c.default-in-default.result))
+pub with_piece-requires-in_default : goal.with_piece-requires-in_default
+with_piece-requires-in_default g c =
+    subst (λ r. IfErr r Spends) (sym (ap (λ o. o.answer) c.read_with-in_default.ensures.does))
+    (with_spends c.args.token (state_of g.S.Source.stream c.args.reader.now) c.args.buf.now c.args.patience c.args.b c.requires (element c.default-in_default.result))

@@ -7,4 +7,4 @@ pub returns : goal.returns
 returns g c h =
     keeps (state_of g.S.Source.stream c.args.reader.now) _ c.read_bang_element.ensures.does
     (bang_keeps c.args.token (state_of g.S.Source.stream c.args.reader.now) c.args.buf.now c.args.patience)
-    (subst (λ o. is_some o ≡ true) c.handed-back-answer.ensures.token h)
+    (subst (λ o. is_some o ≡ true) c.handed_back-answer.ensures.token h)
