@@ -1,7 +1,7 @@
 ghost use Rattle.std.specs.Prelude.{◌≡◌, false, codes};
 ghost use Rattle.parser.specs.Bytes.{Moves};
 ghost use Rattle.parser.specs.First.{StopsAtFirst, ends_after};
-ghost use Rattle.parser.specs.Pi.{pi, pi_step, after_question, declares, name_ends, pi_due};
+ghost use Rattle.parser.specs.Pi.{pi, pi_step, after_question, pi_due};
 ghost use Rattle.parser.specs.Machines;
 
 use crate::errors::SyntaxError;
@@ -51,31 +51,20 @@ impl Parser for PiParser {
         None
     }
 
+    // An instruction whose target is `xml` is the XML declaration.
     fn eof_error(self, content: &[u8]) -> SyntaxError {
-        if is_declaration(content) {
-            SyntaxError::UnclosedXmlDecl
-        } else {
-            SyntaxError::UnclosedPI
+        match content {
+            [b'<', b'?', b'x', b'm', b'l'] => SyntaxError::UnclosedXmlDecl,
+            [
+                b'<',
+                b'?',
+                b'x',
+                b'm',
+                b'l',
+                b' ' | b'\r' | b'\n' | b'\t' | b'?',
+                ..
+            ] => SyntaxError::UnclosedXmlDecl,
+            _ => SyntaxError::UnclosedPI,
         }
-    }
-}
-
-// An instruction whose target is `xml` is the XML declaration.
-fn is_declaration(content: &[u8]) -> bool
-    ensures { result ≡ declares content.now }
-{
-    match content {
-        [b'<', b'?', b'x', b'm', b'l', rest @ ..] => ends_name(rest),
-        _ => false,
-    }
-}
-
-// Whether a target's name ends before these bytes.
-fn ends_name(rest: &[u8]) -> bool
-    ensures { result ≡ name_ends rest.now }
-{
-    match rest {
-        [] | [b' ' | b'\r' | b'\n' | b'\t' | b'?', ..] => true,
-        _ => false,
     }
 }
