@@ -1,26 +1,19 @@
--- Where the scanners of a CDATA section and of a comment stop. Assumes nothing.
+-- Where the scanner of a comment stops. Assumes nothing.
 use Rattle.std.proofs.Common.{◌≡◌, ℕ, ◌+◌, Bool, true, false, cond, ◌&&◌, eqb, leb, List, [], ◌∷◌, ◌++◌, reverse, length, codes, sym, refl, ap, ◌∙◌, arith, le-leb}
 use mathlib.Core.List.{reverse_aux-eq}
 use lib.ListN.{length-reverse}
 use Rattle.parser.specs.Bytes.{Move, halt, goes}
 use Rattle.parser.specs.Words.{begins}
-use Rattle.parser.specs.First.{StopsAtFirst, ends_after}
-use Rattle.parser.specs.Comment.{comment_step, comment_due}
-use Rattle.parser.specs.declared.comment.CommentParser.{CommentParser}
-use Rattle.parser.specs.declared.comment.CommentParser.TheVariants.{Seen0, Seen1, Seen2}
-use Rattle.parser.proofs.Firsts.{stops_at-first, pushed, seen, seen_step, two_first}
-use Rattle.bang.specs.CData.{cdata, cdata_step, cdata_due}
+use Rattle.parser.specs.First.{StopsAtFirst}
+use Rattle.parser.specs.declared.doubled.DoubledParser.{DoubledParser}
+use Rattle.parser.proofs.Firsts.{stops_at-first, pushed, seen, seen_step}
 use Rattle.bang.specs.Comment.{bang_comment, bang_comment_step, bang_comment_due, ends_bang_comment}
 use Rattle.bang.specs.declared.comment.BangCommentParser.{BangCommentParser}
 use Rattle.bang.specs.declared.comment.BangCommentParser.TheVariants.{Opening0, Opening1, Text}
-use Rattle.bang.specs.declared.cdata.CDataParser.TheVariants.{Bracket0, Bracket1, Bracket2}
-
-pub cdata-first : StopsAtFirst (cdata Bracket0) (ends_after (codes "]]"))
-cdata-first = two_first cdata_step cdata_due 93 Bracket0 Bracket1 Bracket2 (λ b. refl) (λ b. refl) (λ b. refl)
 
 -- the comment's state after the bytes that are, read backwards, r
-abbrev dashes : List ℕ → CommentParser
-dashes = seen comment_step comment_due 45 Seen0 Seen1 Seen2 (λ b. refl) (λ b. refl) (λ b. refl)
+abbrev dashes : List ℕ → DoubledParser 45
+dashes = seen 45
 
 -- two dashes after two more bytes lie at place 4 or later
 late : (r s : List ℕ) (e : Bool) → (leb 4 (2 + length r) && (begins (codes "--") (r ++ s) && e)) ≡ (begins (codes "--") r && e)
@@ -40,7 +33,7 @@ opened (x ∷ y ∷ rest) = Text (dashes (reverse rest))
 pub bang_comment-first : StopsAtFirst (bang_comment Opening0) ends_bang_comment
 bang_comment-first = stops_at-first bang_comment_step bang_comment_due ends_bang_comment opened views
   where
-    through : (v : Bool) (t : CommentParser) → (elim (cond v halt (goes t)) as (λ _. Move BangCommentParser) [ halt ↦ halt | goes t ↦ goes (Text t) ]) ≡ cond v halt (goes (Text t))
+    through : (v : Bool) (t : DoubledParser 45) → (elim (cond v halt (goes t)) as (λ _. Move BangCommentParser) [ halt ↦ halt | goes t ↦ goes (Text t) ]) ≡ cond v halt (goes (Text t))
     through true t = refl
     through false t = refl
 
@@ -48,7 +41,7 @@ bang_comment-first = stops_at-first bang_comment_step bang_comment_due ends_bang
     views [] b = refl
     views (x ∷ []) b = refl
     views (x ∷ y ∷ rest) b =
-        ap (λ (m : Move CommentParser). (elim m as (λ _. Move BangCommentParser) [ halt ↦ halt | goes t ↦ goes (Text t) ])) (seen_step comment_step comment_due 45 Seen0 Seen1 Seen2 (λ b. refl) (λ b. refl) (λ b. refl) (reverse rest) b)
+        ap (λ (m : Move (DoubledParser 45)). (elim m as (λ _. Move BangCommentParser) [ halt ↦ halt | goes t ↦ goes (Text t) ])) (seen_step 45 (reverse rest) b)
         ∙ through (begins (codes "--") (reverse rest) && eqb b 62) (dashes (b ∷ reverse rest))
         ∙ ap (λ v. cond v halt (goes (Text (dashes (b ∷ reverse rest))))) (sym (late (reverse rest) (y ∷ x ∷ []) (eqb b 62)) ∙ ap (λ n. leb 4 n && (begins (codes "--") (reverse rest ++ y ∷ x ∷ []) && eqb b 62)) (omega (arith, length-reverse rest)) ∙ ap (λ l. leb 4 (length (x ∷ y ∷ rest)) && (begins (codes "--") l && eqb b 62)) (sym (reverse_aux-eq rest (y ∷ x ∷ []))))
         ∙ ap (λ l. cond (ends_bang_comment (x ∷ y ∷ rest) b) halt (goes (Text (dashes l)))) (sym (pushed rest b))

@@ -2,9 +2,9 @@
 use Rattle.std.specs.Prelude.{ℕ, ◌&&◌, List, length, codes, nat_le}
 use Rattle.parser.specs.Scan.{Meaning}
 use Rattle.parser.specs.Bytes.{Move, halt, goes, machine}
-use Rattle.parser.specs.Comment.{comment_step}
+use Rattle.parser.specs.Doubled.{doubled_step}
 use Rattle.parser.specs.First.{Ending, ends_after}
-use Rattle.parser.specs.declared.comment.CommentParser.TheVariants.{Seen0}
+use Rattle.parser.specs.declared.doubled.DoubledParser.TheVariants.{Seen0}
 use Rattle.parser.specs.declared.errors.SyntaxError.{SyntaxError}
 use Rattle.parser.specs.declared.errors.SyntaxError.TheVariants.{UnclosedComment}
 use Rattle.bang.specs.declared.comment.BangCommentParser.{BangCommentParser}
@@ -14,7 +14,7 @@ use Rattle.bang.specs.declared.comment.BangCommentParser.TheVariants.{Opening0, 
 abbrev pub bang_comment_step : BangCommentParser → ℕ → Move BangCommentParser
 bang_comment_step Opening0 b = goes Opening1
 bang_comment_step Opening1 b = goes (Text Seen0)
-bang_comment_step (Text s) b = elim (comment_step s b) [ halt ↦ halt | goes t ↦ goes (Text t) ]
+bang_comment_step (Text s) b = elim (doubled_step s b) [ halt ↦ halt | goes t ↦ goes (Text t) ]
 
 abbrev pub bang_comment_due : BangCommentParser → List ℕ → SyntaxError
 bang_comment_due s content = UnclosedComment

@@ -5,9 +5,9 @@ use Rattle.parser.specs.Scan.{Meaning}
 use Rattle.parser.specs.Bytes.{Move, halt, goes, machine}
 use Rattle.parser.specs.Element.{element_step}
 use Rattle.parser.specs.Pi.{pi_step, after_question}
-use Rattle.parser.specs.Comment.{comment_step}
+use Rattle.parser.specs.Doubled.{doubled_step}
 use Rattle.parser.specs.declared.element.ElementParser.TheVariants.{Outside}
-use Rattle.parser.specs.declared.comment.CommentParser.TheVariants.{Seen0}
+use Rattle.parser.specs.declared.doubled.DoubledParser.TheVariants.{Seen0}
 use Rattle.bang.specs.declared.dtd.Held.{Held}
 use Rattle.bang.specs.declared.dtd.DtdParser.{DtdParser}
 use Rattle.bang.specs.declared.dtd.DtdParser.TheVariants.{Before, Literal, Inside, Undecided, Plain, InPi, InComment, InQuoteSensitive, After}
@@ -51,7 +51,7 @@ dtd_step Inside b = cond (b == 93) (goes After) (cond (b == 60) (goes (Undecided
 dtd_step (Undecided h) b = goes (undecided h b)
 dtd_step Plain b = cond (b == 62) (goes Inside) (goes Plain)
 dtd_step (InPi p) b = inner InPi (pi_step p b)
-dtd_step (InComment p) b = inner InComment (comment_step p b)
+dtd_step (InComment p) b = inner InComment (doubled_step p b)
 dtd_step (InQuoteSensitive p) b = inner InQuoteSensitive (element_step p b)
 dtd_step After b = cond (b == 62) halt (goes After)
 

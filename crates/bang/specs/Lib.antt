@@ -1,5 +1,4 @@
 pub mod Dtd
-pub mod CData
 pub mod Comment
 pub mod Bang
 pub mod Examples

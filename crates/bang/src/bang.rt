@@ -1,18 +1,18 @@
 ghost use Rattle.std.specs.Prelude.{◌≡◌};
 ghost use Rattle.bang.specs.Bang.{bang, bang_type};
-ghost use Rattle.bang.specs.CData.{cdata_step, cdata_due};
 ghost use Rattle.bang.specs.Comment.{bang_comment_step, bang_comment_due};
 ghost use Rattle.bang.specs.Dtd.{dtd_step, dtd_due};
 ghost use Rattle.bang.specs.declared.bang.BangType.TheVariants.{CData, Comment, DocType};
+ghost use Rattle.parser.specs.CData.{cdata_due};
+ghost use Rattle.parser.specs.Doubled.{doubled_step};
 ghost use Rattle.parser.specs.Machines;
 
-use crate::cdata::CDataParser;
 use crate::comment::BangCommentParser;
 use crate::dtd::DtdParser;
-use parser::{Parser, SyntaxError};
+use parser::{CDataParser, Parser, SyntaxError};
 
 // What begins with `<!`, with its scanner, which is fed from the byte after that.
-#[derive(Clone, Copy)]
+#[derive(Clone, Copy, Debug, PartialEq, Eq)]
 pub enum BangType {
     CData(CDataParser),
     Comment(BangCommentParser),
@@ -37,7 +37,7 @@ impl Parser for BangType {
     ghost scan = { bang };
 
     ghost prefix = { elim [
-      | CData s ↦ Machines.prefix cdata_step cdata_due s
+      | CData s ↦ Machines.prefix doubled_step cdata_due s
       | Comment s ↦ Machines.prefix bang_comment_step bang_comment_due s
       | DocType s ↦ Machines.prefix dtd_step dtd_due s
     ] };

@@ -1,15 +1,14 @@
 ghost use Rattle.std.specs.Prelude.{◌≡◌};
-ghost use Rattle.parser.specs.Bytes.{Moves};
 ghost use Rattle.parser.specs.First.{StopsAtFirst};
 ghost use Rattle.bang.specs.Comment.{bang_comment, bang_comment_step, ends_bang_comment, bang_comment_due};
 ghost use Rattle.bang.specs.declared.comment.BangCommentParser.TheVariants.{Opening0};
 ghost use Rattle.parser.specs.Machines;
 
-use parser::{CommentParser, Parser, SyntaxError};
+use parser::{ByteParser, CommentParser, Parser, SyntaxError, feed_bytes};
 
 // Finds the `-->` that ends a comment, fed from the byte after `<!`. The dashes of the opening are none of those that end
 // the comment, so `<!-->` and `<!--->` are still open.
-#[derive(Clone, Copy)]
+#[derive(Clone, Copy, Debug, PartialEq, Eq)]
 pub enum BangCommentParser {
     // how many dashes of the opening were fed
     Opening0,
@@ -18,11 +17,10 @@ pub enum BangCommentParser {
     Text(CommentParser),
 }
 
-impl BangCommentParser {
-    // Takes one byte; true where it ends the comment.
-    fn step(&mut self, b: u8) -> bool
-        ensures { Moves (bang_comment_step self.old b) result self.new }
-    {
+impl ByteParser for BangCommentParser {
+    ghost next = { bang_comment_step };
+
+    fn step(&mut self, b: u8) -> bool {
         match self {
             Self::Opening0 => *self = Self::Opening1,
             Self::Opening1 => *self = Self::Text(CommentParser::default()),
@@ -50,12 +48,7 @@ impl Parser for BangCommentParser {
     ghost prefix = { Machines.prefix bang_comment_step bang_comment_due };
 
     fn feed(&mut self, bytes: &[u8]) -> Option<usize> {
-        for (i, b) in bytes.iter().enumerate() {
-            if self.step(*b) {
-                return Some(i);
-            }
-        }
-        None
+        feed_bytes(self, bytes)
     }
 
     fn eof_error(self, _content: &[u8]) -> SyntaxError {

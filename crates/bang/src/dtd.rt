@@ -1,24 +1,17 @@
 ghost use Rattle.std.specs.Prelude.{◌≡◌};
-ghost use Rattle.std.specs.Str.{bytes_eq};
-ghost use Rattle.parser.specs.Bytes.{Moves};
 ghost use Rattle.bang.specs.Dtd.{dtd, dtd_step, held_none, undecided, dtd_due};
 ghost use Rattle.bang.specs.Examples.{Examples};
 ghost use Rattle.bang.specs.declared.dtd.DtdParser.TheVariants.{Before};
 ghost use Rattle.parser.specs.Machines;
 
-use parser::{CommentParser, ElementParser, Parser, PiParser, SyntaxError};
+use parser::{ByteParser, CommentParser, ElementParser, Parser, PiParser, SyntaxError, feed_bytes};
 
-// The bytes after `<` of a markup whose kind is not known yet: the first `len` of `bytes`.
-#[derive(Clone, Copy)]
+// The bytes after `<` of a markup whose kind is not known yet: the first `len` of `bytes`. A scanner has no heap and is copied,
+// so they stand in an array with their number.
+#[derive(Clone, Copy, Debug, PartialEq, Eq)]
 pub struct Held {
     bytes: [u8; 9],
     len: usize,
-}
-
-fn spells(held: &[u8], word: &[u8]) -> bool
-    ensures { result ≡ bytes_eq held.now word.now }
-{
-    held == word
 }
 
 impl Held {
@@ -43,16 +36,16 @@ impl Held {
         let mut bytes = self.bytes;
         let len = self.len + 1;
         bytes[self.len] = b;
-        let held = &bytes[0..len];
-        if spells(held, b"?") {
+        let held = &bytes[..len];
+        if held == b"?".as_slice() {
             DtdParser::InPi(PiParser::default())
-        } else if spells(held, b"!--") {
+        } else if held == b"!--".as_slice() {
             DtdParser::InComment(CommentParser::default())
-        } else if spells(held, b"!ELEMENT") {
+        } else if held == b"!ELEMENT".as_slice() {
             DtdParser::Plain
-        } else if spells(held, b"!ENTITY")
-            || spells(held, b"!ATTLIST")
-            || spells(held, b"!NOTATION")
+        } else if held == b"!ENTITY".as_slice()
+            || held == b"!ATTLIST".as_slice()
+            || held == b"!NOTATION".as_slice()
         {
             DtdParser::InQuoteSensitive(ElementParser::default())
         } else if b == b'>' {
@@ -67,7 +60,7 @@ impl Held {
 
 // Finds the `>` that ends a document type declaration, fed from the byte after `<!`: the first one outside the literals before
 // the internal subset, and outside that subset, which a `]` between its markup ends.
-#[derive(Clone, Copy)]
+#[derive(Clone, Copy, Debug, PartialEq, Eq)]
 pub enum DtdParser {
     // before the `[` of the internal subset
     Before,
@@ -89,11 +82,10 @@ pub enum DtdParser {
     After,
 }
 
-impl DtdParser {
-    // Takes one byte; true where it ends the declaration.
-    fn step(&mut self, b: u8) -> bool
-        ensures { Moves (dtd_step self.old b) result self.new }
-    {
+impl ByteParser for DtdParser {
+    ghost next = { dtd_step };
+
+    fn step(&mut self, b: u8) -> bool {
         match self {
             Self::Before => match b {
                 b'>' => return true,
@@ -156,12 +148,7 @@ impl Parser for DtdParser {
     ghost prefix = { Machines.prefix dtd_step dtd_due };
 
     fn feed(&mut self, bytes: &[u8]) -> Option<usize> {
-        for (i, b) in bytes.iter().enumerate() {
-            if self.step(*b) {
-                return Some(i);
-            }
-        }
-        None
+        feed_bytes(self, bytes)
     }
 
     fn eof_error(self, _content: &[u8]) -> SyntaxError {

@@ -2,11 +2,10 @@
 #![tactic(auto)]
 
 pub mod bang;
-pub mod cdata;
 pub mod comment;
 pub mod dtd;
 
 pub use bang::BangType;
-pub use cdata::CDataParser;
 pub use comment::BangCommentParser;
 pub use dtd::{DtdParser, Held};
+pub use parser::CDataParser;

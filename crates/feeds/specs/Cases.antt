@@ -5,8 +5,8 @@ use Rattle.std.specs.Str.{bytes_eq}
 use Rattle.bang.specs.Bang.{bang_type}
 use Rattle.parser.specs.Pi.{after_question}
 use Rattle.bang.specs.declared.bang.BangType.{BangType}
-use Rattle.parser.specs.declared.comment.CommentParser.{CommentParser}
-use Rattle.parser.specs.declared.comment.CommentParser.TheVariants.{Seen0, Seen1, Seen2}
+use Rattle.parser.specs.declared.doubled.DoubledParser.{DoubledParser}
+use Rattle.parser.specs.declared.doubled.DoubledParser.TheVariants.{Seen0, Seen1, Seen2}
 use Rattle.bang.specs.declared.dtd.DtdParser.{DtdParser}
 use Rattle.bang.specs.declared.dtd.DtdParser.TheVariants.{Before}
 use Rattle.parser.specs.declared.element.ElementParser.{ElementParser}
@@ -25,7 +25,7 @@ elem_of = look_up ((codes "Outside", Outside) ∷ (codes "SingleQ", SingleQ) ∷
 abbrev pub pi_of : List ℕ → Option PiParser
 pi_of = look_up ((codes "0", after_question false) ∷ (codes "1", after_question true) ∷ [])
 
-abbrev pub comment_of : List ℕ → Option CommentParser
+abbrev pub comment_of : List ℕ → Option (DoubledParser 45)
 comment_of = look_up ((codes "Seen0", Seen0) ∷ (codes "Seen1", Seen1) ∷ (codes "Seen2", Seen2) ∷ [])
 
 abbrev pub dtd_of : List ℕ → Option DtdParser

@@ -1,5 +1,5 @@
 -- A DOCTYPE that holds a comment, cut between any two bytes. Assumes nothing.
-use Rattle.std.proofs.Common.{◌≡◌, ℕ, ◌+◌, ◌-◌, ◌<◌, ◌≤◌, List, [], ◌∷◌, ◌++◌, length, drop, codes, sym, ap, ◌∙◌, subst, append_assoc, append-nil, zero-add, arith, length-append, length-drop, le-ltb, lt-ltb}
+use Rattle.std.proofs.Common.{◌≡◌, ℕ, ◌+◌, ◌-◌, ◌<◌, ◌≤◌, List, [], ◌∷◌, ◌++◌, length, drop, codes, Ok, Err, sym, ap, ◌∙◌, subst, append_assoc, append-nil, zero-add, arith, length-append, length-drop, le-ltb, lt-ltb}
 use lib.Utf8.{encodes}
 use Rattle.std.specs.List.{flat_map}
 use Rattle.std.proofs.lemmas.List.{drop-append-le}
@@ -10,7 +10,6 @@ use Rattle.parser.specs.Runs.{told}
 use Rattle.bang.specs.declared.dtd.DtdParser.TheVariants.{Before}
 use Rattle.parser.specs.declared.errors.SyntaxError.{SyntaxError}
 use Rattle.parser.specs.declared.errors.SyntaxError.TheVariants.{UnclosedDoctype}
-use Rattle.parser.specs.declared.runs.Scanned.TheVariants.{Stop, Open}
 use Rattle.parser.specs.Machines.{prefix, owes}
 use Rattle.grammar.specs.Lang.{word, seq, left, right, present, more as further}
 use Rattle.grammar.specs.Doctype.{Doctypedecl, Opening, Closing, Commented}
@@ -41,7 +40,7 @@ long_opening xs (seq {ys = ys} word p) = omega (arith, length-le-encodes (codes 
 long_closing : (xs : List ℕ) → Closing xs → 0 < length (encodes xs)
 long_closing xs (seq {xs = ys} p (seq {ys = zs} word q)) = omega (arith, length-le-encodes (ys ++ (codes "]" ++ zs)), length-append ys (codes "]" ++ zs))
 
-two_runs : (fault : SyntaxError) (x y : List ℕ) (k n : ℕ) → k ≡ length x + n → n < length y → stops_at fault k (x ∷ y ∷ []) ≡ Open fault ∷ Stop n ∷ []
+two_runs : (fault : SyntaxError) (x y : List ℕ) (k n : ℕ) → k ≡ length x + n → n < length y → stops_at fault k (x ∷ y ∷ []) ≡ Err fault ∷ Ok n ∷ []
 two_runs fault x y k n e lt =
     let same : k - length x ≡ n = omega arith in
     let late = le-ltb k (length x) (omega arith) in

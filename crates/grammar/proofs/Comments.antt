@@ -3,12 +3,13 @@ use Rattle.std.proofs.Common.{[], ◌∷◌, codes, refl, ap}
 use Rattle.parser.specs.Bytes.{Move, halt, goes}
 use Rattle.bang.specs.Comment.{bang_comment_step, bang_comment_due}
 use Rattle.bang.specs.Bang.{bang}
-use Rattle.parser.specs.Comment.{comment, comment_step, comment_due}
+use Rattle.parser.specs.Comment.{comment, comment_due}
+use Rattle.parser.specs.Doubled.{doubled_step}
 use Rattle.bang.specs.declared.comment.BangCommentParser.{BangCommentParser}
 use Rattle.bang.specs.declared.comment.BangCommentParser.TheVariants.{Opening0, Text}
 use Rattle.bang.specs.declared.bang.BangType.TheVariants.{Comment as BangAsComment}
-use Rattle.parser.specs.declared.comment.CommentParser.{CommentParser}
-use Rattle.parser.specs.declared.comment.CommentParser.TheVariants.{Seen0, Seen1, Seen2}
+use Rattle.parser.specs.declared.doubled.DoubledParser.{DoubledParser}
+use Rattle.parser.specs.declared.doubled.DoubledParser.TheVariants.{Seen0, Seen1, Seen2}
 use Rattle.grammar.specs.Lang.{Word, One, ◌⨾◌, ◌∣◌, Star}
 use Rattle.grammar.specs.Xml.{not_dash, Comment}
 use Rattle.grammar.specs.Ends.{Ends}
@@ -19,7 +20,7 @@ use Rattle.grammar.proofs.Classes.{Past, leads_past}
 use Rattle.grammar.proofs.Nested.{finishes_nested}
 
 abbrev pub Comments : Machine
-Comments = record { State = CommentParser; step = comment_step; due = comment_due }
+Comments = record { State = DoubledParser 45; step = doubled_step; due = comment_due }
 
 none_seen : Past Comments (45 ∷ []) Seen0 Seen0
 none_seen b o = rw o.0
@@ -40,7 +41,7 @@ comment_ends = ends_opened {M = Comments} Seen0 Seen0 (codes "<!--") [] refl ref
 abbrev BangComments : Machine
 BangComments = record { State = BangCommentParser; step = bang_comment_step; due = bang_comment_due }
 
-abbrev lifted : Move CommentParser → Move BangCommentParser
+abbrev lifted : Move (DoubledParser 45) → Move BangCommentParser
 lifted m = elim m [ halt ↦ halt | goes t ↦ goes (Text t) ]
 
 pub bang_comment_ends : Ends (bang (BangAsComment Opening0)) 2 Comment

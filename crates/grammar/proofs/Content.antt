@@ -1,7 +1,8 @@
 -- Content that may hold no given word, up to that word. Assumes nothing.
-use Rattle.std.proofs.Common.{◌≡◌, ℕ, ◌+◌, Bool, true, false, ◌&&◌, eqb, List, [], ◌∷◌, ◌++◌, reverse, get_or, take, drop, sym, refl, ap, ◌∙◌, subst, append_assoc, arith, eqb-true}
+use Rattle.std.proofs.Common.{◌≡◌, ℕ, ◌+◌, true, eqb, List, [], ◌∷◌, ◌++◌, reverse, get_or, take, drop, sym, refl, ap, ◌∙◌, subst, append_assoc, eqb-true}
 use mathlib.Core.List.{reverse-append, reverse-reverse}
 use lib.Utf8.{encode, encodes}
+use Rattle.std.proofs.lemmas.Bool.{and_parts}
 use Rattle.std.proofs.lemmas.List.{take-append-drop, drop_more}
 use Rattle.parser.specs.Scan.{stop, later}
 use Rattle.parser.specs.Bytes.{Move, halt, goes, machine}
@@ -17,7 +18,7 @@ abbrev Chars : Lang
 Chars = Star (One char)
 
 chars_tail : (zs : List ℕ) → Chars zs → (c : ℕ) (cs : List ℕ) → zs ≡ c ∷ cs → (char c ≡ true) × Chars cs
-chars_tail zs none c cs e = let z : ◌≡◌ {A = ℕ} 0 1 = cc in absurd (omega arith)
+chars_tail zs none c cs e = absurd (cc)
 chars_tail zs (more (one d is) t) c cs e = let same : d ≡ c = cc in (ap char (sym same) ∙ is, subst Chars (tails e) t)
   where
     tails : {y : ℕ} {ys : List ℕ} → y ∷ ys ≡ c ∷ cs → ys ≡ cs
@@ -30,15 +31,11 @@ chars_split (x ∷ xs) ys t =
     let rest = chars_split xs ys parts.1 in
     (more (one x parts.0) rest.0, rest.1)
 
-both : (a b : Bool) → (a && b) ≡ true → (a ≡ true) × (b ≡ true)
-both true b e = (refl, e)
-both false b e = let z : ◌≡◌ {A = ℕ} 0 1 = cc in absurd (omega arith)
-
 begins-split : (w xs : List ℕ) → begins w xs ≡ true → (rest : List ℕ) × (xs ≡ w ++ rest)
 begins-split [] xs e = (xs, refl)
-begins-split (w ∷ ws) [] e = let z : ◌≡◌ {A = ℕ} 0 1 = cc in absurd (omega arith)
+begins-split (w ∷ ws) [] e = absurd (cc)
 begins-split (w ∷ ws) (x ∷ xs) e =
-    let parts = both (eqb x w) (begins ws xs) e in
+    let parts = and_parts (eqb x w) (begins ws xs) e in
     let rest = begins-split ws xs parts.1 in
     (rest.0, ap (λ y. y ∷ xs) (eqb-true x w parts.0) ∙ ap (λ l. w ∷ l) rest.1)
 
@@ -50,7 +47,7 @@ ends_split w xs e =
 -- a place that ends the construct shows the word
 found : (w xs : List ℕ) (k : ℕ) → Chars xs → First (ends_after w) xs k → (Chars ⨾ Word (w ++ 62 ∷ []) ⨾ Chars) xs
 found w xs k t first =
-    let parts = both _ (eqb (get_or xs k 0) 62) first.here in
+    let parts = and_parts _ (eqb (get_or xs k 0) 62) first.here in
     let front = ends_split w (take k xs) parts.0 in
     let back = drop (k + 1) xs in
     let whole : xs ≡ front.0 ++ ((w ++ 62 ∷ []) ++ back) =
@@ -84,7 +81,7 @@ walk-text M un s t (c ∷ cs) e = go (λ u. walk-text M un u t cs) (M.step s c) 
     same q = cc
 
     go : ((u : M.State) → walk M u cs ≡ goes t → walk M u (encodes cs) ≡ goes t) → (m : Move M.State) → M.step s c ≡ m → then m (λ u. walk M u cs) ≡ goes t → walk M s (encode c ++ encodes cs) ≡ goes t
-    go ih halt q r = let z : ◌≡◌ {A = ℕ} 0 1 = cc in absurd (omega arith)
+    go ih halt q r = absurd (cc)
     go ih (goes u) q r =
         walk-append M s u (encode c) (encodes cs) (walk-char M s u c q (λ le. subst (High M s) (same (sym ((un s).1 c le).0 ∙ q)) (un s).1)) ∙ ih u r
 

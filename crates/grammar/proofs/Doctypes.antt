@@ -5,7 +5,7 @@ use Rattle.bang.specs.Bang.{bang}
 use Rattle.bang.specs.Dtd.{dtd_step, dtd_due, inner}
 use Rattle.parser.specs.Pi.{after_question}
 use Rattle.bang.specs.declared.bang.BangType.TheVariants.{DocType}
-use Rattle.parser.specs.declared.comment.CommentParser.TheVariants.{Seen0}
+use Rattle.parser.specs.declared.doubled.DoubledParser.TheVariants.{Seen0}
 use Rattle.bang.specs.declared.dtd.DtdParser.{DtdParser}
 use Rattle.bang.specs.declared.dtd.DtdParser.TheVariants.{Before, Literal, Inside, Plain, InPi, InComment, InQuoteSensitive, After}
 use Rattle.parser.specs.declared.element.ElementParser.TheVariants.{Outside}

@@ -1,5 +1,5 @@
 -- A machine that runs another one inside. Assumes nothing.
-use Rattle.std.proofs.Common.{◌≡◌, ℕ, List, [], ◌∷◌, refl, ap, ◌∙◌, arith}
+use Rattle.std.proofs.Common.{◌≡◌, ℕ, List, [], ◌∷◌, refl, ap, ◌∙◌}
 use lib.Utf8.{encodes}
 use Rattle.parser.specs.Bytes.{Move, halt, goes}
 use Rattle.grammar.specs.Lang.{Lang}
@@ -16,7 +16,7 @@ nested_walk M N f embeds s t [] e = let same : s ≡ t = cc in ap (λ u. goes (f
 nested_walk M N f embeds s t (b ∷ bs) e = go (λ u. nested_walk M N f embeds u t bs) (M.step s b) refl e
   where
     go : ((u : M.State) → walk M u bs ≡ goes t → walk N (f u) bs ≡ goes (f t)) → (m : Move M.State) → M.step s b ≡ m → then m (λ u. walk M u bs) ≡ goes t → walk N (f s) (b ∷ bs) ≡ goes (f t)
-    go ih halt q r = let z : ◌≡◌ {A = ℕ} 0 1 = cc in absurd (omega arith)
+    go ih halt q r = absurd (cc)
     go ih (goes u) q r = ap (λ m. then m (λ v. walk N v bs)) (embeds s u b q) ∙ ih u r
 
 -- where it ends with the inner one

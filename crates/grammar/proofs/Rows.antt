@@ -1,5 +1,5 @@
 -- Texts that are rows of simpler texts. Assumes nothing.
-use Rattle.std.proofs.Common.{◌≡◌, ℕ, Bool, true, false, cond, eqb, List, [], ◌∷◌, ◌++◌, sym, refl, subst, append_assoc, append-nil, arith, eq-eqb}
+use Rattle.std.proofs.Common.{◌≡◌, ℕ, Bool, true, false, cond, eqb, List, [], ◌∷◌, ◌++◌, sym, refl, subst, append_assoc, append-nil, eq-eqb}
 use Rattle.grammar.specs.Lang.{Lang, Word, word, One, one, ◌⨾◌, seq, ◌∣◌, left, right, Opt, absent, present, Star, none, more, Plus}
 use Rattle.grammar.proofs.Walks.{Machine}
 use Rattle.grammar.proofs.Leads.{Leads, leads_star}
@@ -70,7 +70,7 @@ made_word {R} {w} marks single k = record { row = at }
       where
         go : (free marks cs ≡ true → Star R cs) → (v : Bool) → clear (eqb c) marks ≡ v → cond v (free marks cs) false ≡ true → Star R (c ∷ cs)
         go ih true q r = more (single c (off_class (eqb c) marks c q (eq-eqb c c refl))) (ih r)
-        go ih false q r = let z : ◌≡◌ {A = ℕ} 0 1 = cc in absurd (omega arith)
+        go ih false q r = absurd (cc)
 
     at : (xs : List ℕ) → Word w xs → Star R xs
     at xs word = spelt w k

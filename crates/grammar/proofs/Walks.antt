@@ -26,7 +26,7 @@ walk-append M s t [] ys e = let same : s ≡ t = cc in ap (λ u. walk M u ys) sa
 walk-append M s t (x ∷ xs) ys e = go (λ u. walk-append M u t xs ys) (M.step s x) e
   where
     go : ((u : M.State) → walk M u xs ≡ goes t → walk M u (xs ++ ys) ≡ walk M t ys) → (m : Move M.State) → then m (λ u. walk M u xs) ≡ goes t → then m (λ u. walk M u (xs ++ ys)) ≡ walk M t ys
-    go ih halt q = let z : ◌≡◌ {A = ℕ} 0 1 = cc in absurd (omega arith)
+    go ih halt q = absurd (cc)
     go ih (goes u) q = ih u q
 
 pub walk_byte : (M : Machine) (s t : M.State) (b : ℕ) → M.step s b ≡ goes t → walk M s (b ∷ []) ≡ goes t
@@ -38,7 +38,7 @@ walk_along M s t [] e = let same : s ≡ t = cc in subst (λ u. Along M.step M.d
 walk_along M s t (b ∷ bs) e = go (λ u. walk_along M u t bs) (M.step s b) refl e
   where
     go : ((u : M.State) → walk M u bs ≡ goes t → Along M.step M.due u t bs) → (m : Move M.State) → M.step s b ≡ m → then m (λ u. walk M u bs) ≡ goes t → Along M.step M.due s t (b ∷ bs)
-    go ih halt q r zs = let z : ◌≡◌ {A = ℕ} 0 1 = cc in absurd (omega arith)
+    go ih halt q r zs = absurd (cc)
     go ih (goes u) q r zs =
         machine-cons M.step M.due s b (bs ++ zs) (goes u) q
         ∙ ap (later 1) (ih u r zs)
@@ -81,4 +81,4 @@ encodes_self (c ∷ cs) e = go (encodes_self cs) (ltb c 128) refl e
   where
     go : (ascii cs ≡ true → encodes cs ≡ cs) → (v : Bool) → ltb c 128 ≡ v → cond v (ascii cs) false ≡ true → encode c ++ encodes cs ≡ c ∷ cs
     go ih true q r = ap (λ l. l ++ encodes cs) (encode_ascii c (ltb-true c 128 q)) ∙ ap (λ l. c ∷ l) (ih r)
-    go ih false q r = let z : ◌≡◌ {A = ℕ} 0 1 = cc in absurd (omega arith)
+    go ih false q r = absurd (cc)

@@ -9,7 +9,7 @@ ghost use Rattle.bang.specs.Dtd.{dtd};
 ghost use Rattle.parser.specs.Element.{element};
 ghost use Rattle.parser.specs.Pi.{pi, after_question};
 ghost use Rattle.parser.specs.Runs.{told};
-ghost use Rattle.parser.specs.declared.comment.CommentParser.TheVariants.{Seen0};
+ghost use Rattle.parser.specs.declared.doubled.DoubledParser.TheVariants.{Seen0};
 ghost use Rattle.bang.specs.declared.dtd.DtdParser.TheVariants.{Before};
 ghost use Rattle.parser.specs.declared.element.ElementParser.TheVariants.{Outside};
 ghost use Rattle.grammar.specs.Cut.{CutAnywhere, CutInComment};
@@ -18,7 +18,7 @@ ghost use Rattle.grammar.specs.Ends.{Ends, BangEnds};
 ghost use Rattle.grammar.specs.Xml.{STag, ETag, EmptyElemTag, PI, Comment, CDSect};
 
 use bang::{BangType, DtdParser};
-use parser::{CommentParser, ElementParser, PiParser, Scanned, feed_runs};
+use parser::{CommentParser, ElementParser, PiParser, SyntaxError, feed_runs};
 use std::alloc::{AllocError, Global};
 
 // The `<` of a tag is not fed.
@@ -59,7 +59,11 @@ pub fn bang(byte: u8) -> Option<BangType>
 }
 
 // A DOCTYPE that holds a comment, cut between any two bytes, any number of times; and so any DOCTYPE. Its `<!` is not fed.
-pub fn doctype(heap: Global, runs: &[&[u8]], content: &[u8]) -> Result<Vec<Scanned>, AllocError>
+pub fn doctype(
+    heap: Global,
+    runs: &[&[u8]],
+    content: &[u8],
+) -> Result<Vec<Result<usize, SyntaxError>>, AllocError>
     ensures given { IfOk result (λ v. v.items ≡ told (dtd Before) content.now [] (map (λ x. x.now) runs.now)) }
     ensures anywhere { IfOk result (λ v. CutAnywhere Doctypedecl (map (λ x. x.now) runs.now) v.items) }
     ensures commented { IfOk result (λ v. CutAnywhere Commented (map (λ x. x.now) runs.now) v.items) }

@@ -5,7 +5,8 @@ use Rattle.std.proofs.lemmas.Bool.{cond_both, eqb-true, ne_eqb}
 use Rattle.source.specs.Stream.{Item, byte, wait, Tail, end, fault, bytes_in, bytes_of}
 use Rattle.parser.specs.Scan.{Verdict, stop, unclosed, later}
 use Rattle.parser.specs.Bytes.{Move, halt, goes, machine}
-use Rattle.bang.specs.CData.{cdata_step, cdata_due}
+use Rattle.parser.specs.CData.{cdata_due}
+use Rattle.parser.specs.Doubled.{doubled_step}
 use Rattle.bang.specs.Comment.{bang_comment_step, bang_comment_due}
 use Rattle.bang.specs.Bang.{bang, bang_type}
 use Rattle.bang.specs.Dtd.{dtd_step, dtd_due}
@@ -286,7 +287,7 @@ machine_moves {S} step due h s (x ∷ xs) = go (λ t. machine_moves step due h t
     go rest (goes t) = later_moves (machine step due t xs) (rest t)
 
 bang_moves : (b : BangType) (xs : List ℕ) → VerdictMoves (bang b xs)
-bang_moves (scanner.CData s) = machine_moves cdata_step cdata_due (λ _ _ _ _. refl) s
+bang_moves (scanner.CData s) = machine_moves doubled_step cdata_due (λ _ _ _ _. refl) s
 bang_moves (scanner.Comment s) = machine_moves bang_comment_step bang_comment_due (λ _ _ _ _. refl) s
 bang_moves (scanner.DocType s) = machine_moves dtd_step dtd_due (λ _ _ _ _. refl) s
 

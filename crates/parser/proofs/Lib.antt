@@ -1,2 +1,3 @@
+mod Reached
 pub mod Firsts
 pub mod Feeds

@@ -5,6 +5,8 @@ pub mod Words
 pub mod First
 pub mod Element
 pub mod Pi
+pub mod Doubled
 pub mod Comment
+pub mod CData
 pub mod Runs
 pub mod Machines

@@ -1,10 +1,10 @@
 ghost use Rattle.std.specs.Prelude.{◌≡◌};
-ghost use Rattle.parser.specs.Bytes.{Moves};
 ghost use Rattle.parser.specs.Element.{element, element_step, element_due};
 ghost use Rattle.parser.specs.First.{StopsAtFirst, ends_tag};
 ghost use Rattle.parser.specs.declared.element.ElementParser.TheVariants.{Outside};
 ghost use Rattle.parser.specs.Machines;
 
+use crate::bytes::{ByteParser, feed_bytes};
 use crate::errors::SyntaxError;
 use crate::parser::Parser;
 
@@ -19,11 +19,10 @@ pub enum ElementParser {
     DoubleQ,
 }
 
-impl ElementParser {
-    // Takes one byte; true where it ends the tag.
-    pub fn step(&mut self, b: u8) -> bool
-        ensures { Moves (element_step self.old b) result self.new }
-    {
+impl ByteParser for ElementParser {
+    ghost next = { element_step };
+
+    fn step(&mut self, b: u8) -> bool {
         *self = match (*self, b) {
             (Self::Outside, b'>') => return true,
             (Self::Outside, b'\'') => Self::SingleQ,
@@ -53,12 +52,7 @@ impl Parser for ElementParser {
     ghost prefix = { Machines.prefix element_step element_due };
 
     fn feed(&mut self, bytes: &[u8]) -> Option<usize> {
-        for (i, b) in bytes.iter().enumerate() {
-            if self.step(*b) {
-                return Some(i);
-            }
-        }
-        None
+        feed_bytes(self, bytes)
     }
 
     fn eof_error(self, _content: &[u8]) -> SyntaxError {

@@ -1,9 +1,9 @@
 ghost use Rattle.std.specs.Prelude.{◌≡◌, false, codes};
-ghost use Rattle.parser.specs.Bytes.{Moves};
 ghost use Rattle.parser.specs.First.{StopsAtFirst, ends_after};
 ghost use Rattle.parser.specs.Pi.{pi, pi_step, after_question, pi_due};
 ghost use Rattle.parser.specs.Machines;
 
+use crate::bytes::{ByteParser, feed_bytes};
 use crate::errors::SyntaxError;
 use crate::parser::Parser;
 
@@ -12,11 +12,10 @@ use crate::parser::Parser;
 #[derive(Clone, Copy, Debug, PartialEq, Eq)]
 pub struct PiParser(pub bool);
 
-impl PiParser {
-    // Takes one byte; true where it ends the instruction.
-    pub fn step(&mut self, b: u8) -> bool
-        ensures { Moves (pi_step self.old b) result self.new }
-    {
+impl ByteParser for PiParser {
+    ghost next = { pi_step };
+
+    fn step(&mut self, b: u8) -> bool {
         if self.0 && b == b'>' {
             return true;
         }
@@ -43,27 +42,13 @@ impl Parser for PiParser {
     ghost prefix = { Machines.prefix pi_step pi_due };
 
     fn feed(&mut self, bytes: &[u8]) -> Option<usize> {
-        for (i, b) in bytes.iter().enumerate() {
-            if self.step(*b) {
-                return Some(i);
-            }
-        }
-        None
+        feed_bytes(self, bytes)
     }
 
     // An instruction whose target is `xml` is the XML declaration.
     fn eof_error(self, content: &[u8]) -> SyntaxError {
-        match content {
-            [b'<', b'?', b'x', b'm', b'l'] => SyntaxError::UnclosedXmlDecl,
-            [
-                b'<',
-                b'?',
-                b'x',
-                b'm',
-                b'l',
-                b' ' | b'\r' | b'\n' | b'\t' | b'?',
-                ..
-            ] => SyntaxError::UnclosedXmlDecl,
+        match content.strip_prefix(b"<?xml") {
+            Some([] | [b' ' | b'\r' | b'\n' | b'\t' | b'?', ..]) => SyntaxError::UnclosedXmlDecl,
             _ => SyntaxError::UnclosedPI,
         }
     }

@@ -5,33 +5,25 @@ use crate::errors::SyntaxError;
 use crate::parser::Parser;
 use std::alloc::{AllocError, Global};
 
-// What a scanner tells of a run.
-#[derive(Clone, Copy, Debug, PartialEq, Eq)]
-pub enum Scanned {
-    // the place in the run of the byte that ends the construct
-    Stop(usize),
-    // no byte does, and this is the fault if the input ends with the run
-    Open(SyntaxError),
-}
-
-// Feeds the runs one after another, up to the one with the stop, and gives what the scanner tells of each: just what it means
+// Feeds the runs one after another, up to the one with the stop, and gives what the scanner tells of each: the place in the run of
+// the byte that ends the construct, or, where no byte does, the fault if the input ends with the run. That is just what it means
 // for all bytes so far, wherever they were cut. `content` is the piece from its `<`.
 pub fn feed_runs<P: Parser + Copy>(
     heap: Global,
     mut parser: P,
     runs: &[&[u8]],
     content: &[u8],
-) -> Result<Vec<Scanned>, AllocError>
+) -> Result<Vec<Result<usize, SyntaxError>>, AllocError>
     ensures { IfOk result (λ v. v.items ≡ told (P.scan parser) content.now [] (map (λ x. x.now) runs.now)) }
 {
     let mut given = Vec::new(heap);
     for run in runs {
         match parser.feed(*run) {
             Some(place) => {
-                given.push(Scanned::Stop(place))?;
+                given.push(Ok(place))?;
                 return Ok(given);
             }
-            None => given.push(Scanned::Open(parser.eof_error(content)))?,
+            None => given.push(Err(parser.eof_error(content)))?,
         }
     }
     Ok(given)

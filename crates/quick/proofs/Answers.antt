@@ -5,7 +5,8 @@ use Rattle.std.specs.Option.{ok_or}
 use Rattle.source.specs.declared.fault.Fault.{Fault}
 use Rattle.source.specs.Stream.{Item, Tail, end, fault, bytes_in, bytes_of}
 use Rattle.parser.specs.Scan.{Verdict, stop, unclosed, Meaning, Prefix}
-use Rattle.bang.specs.CData.{cdata_step, cdata_due}
+use Rattle.parser.specs.CData.{cdata_due}
+use Rattle.parser.specs.Doubled.{doubled_step}
 use Rattle.bang.specs.Comment.{bang_comment_step, bang_comment_due}
 use Rattle.bang.specs.Bang.{bang, bang_type}
 use Rattle.bang.specs.Dtd.{dtd_step, dtd_due}
@@ -337,7 +338,7 @@ module _ {T : Type 0} (token : T) where
   bang_tells k w Full = (refl, refl)
 
   bang_ends : (b : BangType) → Prefix (bang b)
-  bang_ends (CData s) = prefix cdata_step cdata_due s
+  bang_ends (CData s) = prefix doubled_step cdata_due s
   bang_ends (Comment s) = prefix bang_comment_step bang_comment_due s
   bang_ends (DocType s) = prefix dtd_step dtd_due s
 

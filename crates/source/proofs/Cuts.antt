@@ -1,6 +1,6 @@
 -- Laws of cuts. Assumes nothing.
-use Rattle.std.proofs.Common.{◌≡◌, ℕ, zero, suc, ◌-◌, ◌<◌, ◌≤◌, List, [], ◌∷◌, ◌++◌, map, length, get_or, take, drop, refl, ap, ◌∙◌, append-nil, arith}
-use Rattle.source.specs.Cuts.{pieces, ending, before, sizes, less}
+use Rattle.std.proofs.Common.{◌≡◌, ℕ, zero, suc, ◌<◌, ◌≤◌, List, [], ◌∷◌, ◌++◌, map, length, get_or, take, drop, refl, ap, ◌∙◌, append-nil, arith}
+use Rattle.source.specs.Cuts.{pieces, ending, before, sizes}
 use Rattle.source.specs.Sources.{cut_stream, frames}
 use Rattle.source.specs.Stream.{Item, byte, bytes_in, Tail, Stream, seen, passed}
 use Rattle.source.specs.declared.cut.Cut.{Cut}
@@ -15,12 +15,6 @@ pub drop-front : (n : ℕ) (xs : List ℕ) (is : List Item) → n ≤ length xs 
 drop-front zero xs is h = refl
 drop-front (suc n) [] is h = absurd (omega arith)
 drop-front (suc n) (x ∷ xs) is h = drop-front n xs is (omega arith)
-
--- the sizes of frames, where some of the first is gone
-pub less-before : (n m : ℕ) (ns : List ℕ) → n ≤ m → less n (before m ns) ≡ before (m - n) ns
-less-before zero m ns h = ap (λ k. before k ns) (omega arith)
-less-before (suc n) zero ns h = absurd (omega arith)
-less-before (suc n) (suc m) ns h = refl
 
 -- a look at a stream where the bytes xs are shown
 pub sees_front : (xs : List ℕ) (is : List Item) (t : Tail) (s : Stream) (ns ms : List ℕ) → 0 < length xs

@@ -42,10 +42,10 @@ without-plain n xs = ap (λ is. record { items = is; tail = end }) (drop-map byt
 
 -- a look finds no byte where none comes before the next wait
 pub not_ready : {P : Type 0} (is : List Item) (t : Tail) → lead is ≡ 0 → seen_in is t ≡ Ready → P
-not_ready [] end h e = let z : ◌≡◌ {A = ℕ} 0 1 = cc in absurd (omega arith)
-not_ready [] (fault f) h e = let z : ◌≡◌ {A = ℕ} 0 1 = cc in absurd (omega arith)
+not_ready [] end h e = absurd (cc)
+not_ready [] (fault f) h e = absurd (cc)
 not_ready (byte b ∷ is) t h e = absurd (omega arith)
-not_ready (wait ∷ is) t h e = let z : ◌≡◌ {A = ℕ} 0 1 = cc in absurd (omega arith)
+not_ready (wait ∷ is) t h e = absurd (cc)
 
 -- a look that finds one changes nothing
 pub passed_ready : (s : Stream) → Ready ≡ seen s → passed s ≡ s

@@ -19,7 +19,8 @@ pub struct Cut<'a> {
 
 impl<'a> Cut<'a> {
     // An entry 0 is a wait, and any other a frame of so many bytes, or of those that remain: once none do, only waits count.
-    // Behind the entries one more frame holds the rest. A code other than 0 puts that fault in the place of the end.
+    // Behind the entries one more frame holds the rest. A code other than 0 puts that fault in the place of the end. The rules
+    // give both as 8-bit numbers, as recorded cases do, so 0 stands for the wait and for the end.
     pub fn new(bytes: &'a [u8], entries: &'a [u8], code: u8) -> Cut<'a>
         ensures stream { cut_stream result ≡ cut_at entries.now bytes.now code }
         ensures ready { cut_ready result ≡ 0 }
@@ -85,11 +86,10 @@ impl<'a> Source for Cut<'a> {
         ensures count { cut_ready self.new ≡ (if result then cut_ready self.old - n else cut_ready self.old) }
         ensures frames { frames self.new ≡ (if result then less n (frames self.old) else frames self.old) }
     {
-        if n > self.shown.len() {
+        let Some(shown) = self.shown.get(n..) else {
             return false;
-        }
-        let shown = self.shown;
-        self.shown = &shown[n..];
+        };
+        self.shown = shown;
         true
     }
 }

@@ -1,6 +1,7 @@
 ghost use Rattle.std.specs.Prelude.{Some};
 ghost use Rattle.source.specs.Text.{fault_text};
 
+use std::error::Error;
 use std::fmt;
 
 // Why a source can not go on.
@@ -38,3 +39,5 @@ impl fmt::Display for Fault {
         }
     }
 }
+
+impl Error for Fault {}

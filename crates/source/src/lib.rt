@@ -1,5 +1,7 @@
+// Streams of bytes and waits, and the sources that lend them.
 #![tactic(auto)]
 
+mod at_most;
 mod cut;
 mod fault;
 mod narrow;

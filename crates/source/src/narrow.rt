@@ -3,6 +3,7 @@ ghost use Rattle.source.specs.Bounds.{narrow_bounded};
 ghost use Rattle.source.specs.Sources.{narrow_ready, narrow_stream, room, width};
 ghost use Rattle.source.specs.Stream.{bytes_of, passed, seen, without};
 
+use super::at_most::{show_at_most, take_at_most};
 use super::{Look, Source};
 
 // Shows at most `most` bytes of the source below at a time, where 0 counts as 1.
@@ -62,9 +63,7 @@ impl<S: Source> Source for Narrow<S> {
         ensures len { length result.now ≡ narrow_ready S.Source.ready self.now }
         ensures width { length result.now ≤ width self.now }
     {
-        let lower = self.source.show();
-        let n = lower.len().min(self.room() as usize);
-        &lower[0..n]
+        show_at_most(&self.source, self.room() as usize)
     }
 
     fn take(&mut self, n: usize) -> bool
@@ -73,14 +72,11 @@ impl<S: Source> Source for Narrow<S> {
         ensures count { narrow_ready S.Source.ready self.new ≡ (if result then narrow_ready S.Source.ready self.old - n else narrow_ready S.Source.ready self.old) }
         ensures width { width self.new ≡ width self.old }
     {
-        if n > self.room() as usize {
-            return false;
-        }
-        if self.source.take(n) {
+        let room = self.room() as usize;
+        let took = take_at_most(&mut self.source, room, n);
+        if took {
             self.taken += n as u16;
-            true
-        } else {
-            false
         }
+        took
     }
 }

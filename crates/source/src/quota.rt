@@ -4,6 +4,7 @@ ghost use Rattle.source.specs.Sources.{quota_ready, quota_stream};
 ghost use Rattle.source.specs.Stream.{limited};
 ghost use Rattle.source.specs.declared.fault.Fault.TheVariants.{Quota as quota_fault};
 
+use super::at_most::{show_at_most, take_at_most};
 use super::{Fault, Look, Source};
 
 // Gives no more than a number of bytes of the source below: a fault stands in the place of the next one.
@@ -44,20 +45,14 @@ impl<S: Source> Source for Quota<S> {
     }
 
     fn show(&self) -> &[u8] {
-        let lower = self.source.show();
-        let n = lower.len().min(self.left as usize);
-        &lower[0..n]
+        show_at_most(&self.source, self.left as usize)
     }
 
     fn take(&mut self, n: usize) -> bool {
-        if n > self.left as usize {
-            return false;
-        }
-        if self.source.take(n) {
+        let took = take_at_most(&mut self.source, self.left as usize, n);
+        if took {
             self.left -= n as u32;
-            true
-        } else {
-            false
         }
+        took
     }
 }

@@ -40,11 +40,10 @@ impl<'a> Source for Whole<'a> {
     }
 
     fn take(&mut self, n: usize) -> bool {
-        if n > self.rest.len() {
+        let Some(rest) = self.rest.get(n..) else {
             return false;
-        }
-        let rest = self.rest;
-        self.rest = &rest[n..];
+        };
+        self.rest = rest;
         true
     }
 }

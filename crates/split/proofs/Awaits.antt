@@ -1,7 +1,8 @@
 -- A byte is awaited as a piece of no bytes; peek_one and read_bang_element by it. Assumes nothing.
 use Rattle.std.proofs.Common.{◌≡◌, ℕ, zero, suc, ◌+◌, ◌-◌, ◌≤◌, Bool, true, false, cond, eqb, List, [], ◌∷◌, ◌++◌, length, drop, Some, None, Ok, Err, Option, Result, sym, refl, ap, ◌∙◌, subst, arith}
 use Rattle.source.specs.Stream.{Item, byte, wait, Tail, end, fault, bytes_in, waits_in}
-use Rattle.bang.specs.CData.{cdata_step, cdata_due}
+use Rattle.parser.specs.CData.{cdata_due}
+use Rattle.parser.specs.Doubled.{doubled_step}
 use Rattle.bang.specs.Comment.{bang_comment_step, bang_comment_due}
 use Rattle.bang.specs.Bang.{bang, bang_type}
 use Rattle.bang.specs.Dtd.{dtd_step, dtd_due}
@@ -134,7 +135,7 @@ module _ {T : Type 0} (token : T) (s : State) where
       }
 
 bang_prefix_law : (k : BangType) → Prefix (bang k)
-bang_prefix_law (CData s) = prefix cdata_step cdata_due s
+bang_prefix_law (CData s) = prefix doubled_step cdata_due s
 bang_prefix_law (Comment s) = prefix bang_comment_step bang_comment_due s
 bang_prefix_law (DocType s) = prefix dtd_step dtd_due s
 

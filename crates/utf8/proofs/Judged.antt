@@ -1,21 +1,19 @@
 -- Bytes have one answer that `Checks` allows, and `judged` gives it. Assumes nothing.
-use Rattle.std.proofs.Common.{◌≡◌, ℕ, zero, suc, ◌+◌, ◌<◌, ◌≤◌, Bool, true, false, cond, ◌||◌, eqb, ◌⊎◌, List, [], ◌∷◌, ◌++◌, length, take, drop, Ok, Err, Decides, Result, sym, refl, ap, ◌∙◌, subst, inl, inr, append_assoc, zero-add, arith, length-append, length-drop, length-take}
+use Rattle.std.proofs.Common.{◌≡◌, ℕ, zero, suc, ◌+◌, ◌<◌, ◌≤◌, Bool, true, false, cond, eqb, ◌⊎◌, List, [], ◌∷◌, ◌++◌, length, take, drop, Ok, Err, Decides, Result, sym, refl, ap, ◌∙◌, subst, inl, inr, append_assoc, zero-add, arith, length-append, length-drop, length-take}
 use Rattle.std.proofs.lemmas.List.{take_at, drop_at, take_all, take-take, drop-take, take-append-drop, length-take-le}
 use Rattle.std.proofs.lemmas.Bool.Decides.{Decides-eqb}
 use Rattle.std.specs.Int.{is_in_range}
-use Rattle.utf8.proofs.Table.{true_false, both, or_false, Rising, rises, below, upto}
+use Rattle.std.proofs.Math.Bool.{or-false, or-true}
+use Rattle.std.proofs.lemmas.Bool.{and_parts}
+use Rattle.utf8.proofs.Table.{Rising, rises, below, upto}
 use Rattle.utf8.specs.Utf8.{Row, fits, table, some_fits, Octets, none, more, Longest, Checks, char_length, good_length, judged}
 use Rattle.utf8.specs.declared.Utf8Error.{Utf8Error}
 
 fits-length : (row : Row) (c : List ℕ) → fits row c ≡ true → length c ≡ length row
 fits-length [] [] e = refl
-fits-length [] (b ∷ c) e = true_false (sym e)
-fits-length (r ∷ row) [] e = true_false (sym e)
-fits-length (r ∷ row) (b ∷ c) e = ap suc (fits-length row c (both (is_in_range r.low r.high b) (fits row c) e).1)
-
-or_true : (a : Bool) → (a || true) ≡ true
-or_true true = refl
-or_true false = refl
+fits-length [] (b ∷ c) e = absurd (cc)
+fits-length (r ∷ row) [] e = absurd (cc)
+fits-length (r ∷ row) (b ∷ c) e = ap suc (fits-length row c (and_parts (is_in_range r.low r.high b) (fits row c) e).1)
 
 -- a row fits as many bytes as `char_length` says
 abbrev Begins : List Row → List ℕ → ℕ → Type 0
@@ -28,18 +26,18 @@ begins (row ∷ rows) bs = go (fits row (take (length row) bs)) refl (begins row
     go : (w : Bool) → fits row (take (length row) bs) ≡ w → Begins rows bs (char_length rows bs) → Begins (row ∷ rows) bs (cond w (length row) (char_length rows bs))
     go true w ih = inr (rw w, let e = simp length-take at (fits-length row (take (length row) bs) w) in omega arith)
     go false w (inl none') = inl none'
-    go false w (inr some) = inr (rw some.0 (or_true (fits row (take (char_length rows bs) bs))), some.1)
+    go false w (inr some) = inr (rw some.0 (or-true (fits row (take (char_length rows bs) bs))), some.1)
 
 -- the character at the front has the length that `char_length` says
 char_of : (n : ℕ) (rows : List Row) (b : ℕ) (c ys : List ℕ) → Rising n rows → some_fits rows (b ∷ c) ≡ true → char_length rows (b ∷ (c ++ ys)) ≡ suc (length c)
-char_of n [] b c ys h e = true_false (sym e)
+char_of n [] b c ys h e = absurd (cc)
 char_of n ([] ∷ rows) b c ys h e = absurd h
 char_of n ((r ∷ row) ∷ rows) b c ys h e = go (char_of (r.high + 1) rows b c ys h.2) (is_in_range r.low r.high b) refl
   where
     go : (some_fits rows (b ∷ c) ≡ true → char_length rows (b ∷ (c ++ ys)) ≡ suc (length c)) → (w : Bool) → is_in_range r.low r.high b ≡ w → char_length ((r ∷ row) ∷ rows) (b ∷ (c ++ ys)) ≡ suc (length c)
     go ih true w =
         let last : b < r.high + 1 = omega (arith, upto r.low r.high b w) in
-        let fit : fits row c ≡ true = sym (or_false (fits row c)) ∙ rw (w, below (r.high + 1) rows b c h.2 last) at e in
+        let fit : fits row c ≡ true = sym (or-false (fits row c)) ∙ rw (w, below (r.high + 1) rows b c h.2 last) at e in
         let same = fits-length row c fit in
         rw (w, take_at c ys (length row) same, fit) (ap suc (sym same))
     go ih false w = rw w (ih (rw w at e))
@@ -62,7 +60,7 @@ good_front (suc n) bs = go (good_front n) (char_length table bs) (begins table b
 -- and no longer front is, within n characters
 good_most : (n : ℕ) (zs ys : List ℕ) → length zs ≤ n → Octets zs → length zs ≤ good_length n (zs ++ ys)
 good_most n zs ys le none = omega arith
-good_most n zs ys le (more [] e o) = true_false (sym e)
+good_most n zs ys le (more [] e o) = absurd (cc)
 good_most zero zs ys le (more (b ∷ c) {bs} e o) = absurd (omega arith)
 good_most (suc n) zs ys le (more (b ∷ c) {bs} e o) =
     let counted : good_length (suc n) (((b ∷ c) ++ bs) ++ ys) ≡ suc (length c) + good_length n (bs ++ ys) =
@@ -104,7 +102,7 @@ judged_checks bs = go (eqb (good_length (length bs) bs) (length bs)) (Decides-eq
   where
     go : (w : Bool) → Decides w (good_length (length bs) bs ≡ length bs) → Checks bs (cond w (Ok tt) (Err (record { valid_up_to = good_length (length bs) bs })))
     go true d = whole (longest_front bs) (d.0 refl)
-    go false d = part (longest_front bs) (λ e. true_false (sym (d.1 e)))
+    go false d = part (longest_front bs) (λ e. absurd (cc (d.1 e)))
 
 pub judges : (bs : List ℕ) (r : Result (Unit {0}) Utf8Error) → Checks bs r → r ≡ judged bs
 judges bs r h = unique bs r (judged bs) h (judged_checks bs)

@@ -1,7 +1,9 @@
 -- What a state of the check still needs, and what one byte does to it. Assumes nothing.
 use Rattle.std.proofs.Common.{◌≡◌, ℕ, ◌+◌, ◌<◌, Bool, true, false, cond, ◌&&◌, ◌||◌, eqb, ◌⊎◌, List, [], ◌∷◌, ◌++◌, Some, None, Option, sym, refl, ap, ◌∙◌, subst, inl, inr, ⊎_elim, arith, rules}
 use Rattle.std.specs.Int.{is_in_range}
-use Rattle.utf8.proofs.Table.{true_false, both, or_false, Rising, rises, below, upto}
+use Rattle.std.proofs.Math.Bool.{or-false}
+use Rattle.std.proofs.lemmas.Bool.{and_parts}
+use Rattle.utf8.proofs.Table.{Rising, rises, below, upto}
 use Rattle.utf8.specs.Utf8.{Range, ◌to◌, tail, Row, fits, table, some_fits, Octets, none, more}
 use Rattle.utf8.specs.Steps.{after, due, against, need_step}
 use Rattle.utf8.specs.declared.Need.{Need}
@@ -17,7 +19,7 @@ pub record Rest (row : Row) (zs : List ℕ) : Type 0 where
 
 empty_fits : (xs : List ℕ) → fits [] xs ≡ true → xs ≡ []
 empty_fits [] e = refl
-empty_fits (x ∷ xs) e = true_false (sym e)
+empty_fits (x ∷ xs) e = absurd (cc)
 
 pub rest_octets : (zs : List ℕ) → Rest [] zs → Octets zs
 rest_octets zs r = subst Octets (sym (r.cut ∙ ap (λ l. l ++ r.ys) (empty_fits r.xs r.front))) r.back
@@ -25,25 +27,22 @@ rest_octets zs r = subst Octets (sym (r.cut ∙ ap (λ l. l ++ r.ys) (empty_fits
 pub octets_rest : (zs : List ℕ) → Octets zs → Rest [] zs
 octets_rest zs o = record { xs = []; ys = zs; cut = refl; front = refl; back = o }
 
-nil-cons : {A : Type 0} (x : ℕ) (xs : List ℕ) → [] ≡ x ∷ xs → A
-nil-cons x xs e = let z : ◌≡◌ {A = ℕ} 0 1 = cc in absurd (omega arith)
-
 pub rest_nil : (r : Range) (row : Row) → Rest (r ∷ row) [] → ⊥
 rest_nil r row h = go h.xs h.cut h.front
   where
     go : (xs : List ℕ) → [] ≡ xs ++ h.ys → fits (r ∷ row) xs ≡ true → ⊥
-    go [] e f = true_false (sym f)
-    go (x ∷ xs) e f = nil-cons x (xs ++ h.ys) e
+    go [] e f = absurd (cc)
+    go (x ∷ xs) e f = absurd (cc)
 
 pub rest_cons : (r : Range) (row : Row) (b : ℕ) (zs : List ℕ) → Rest (r ∷ row) (b ∷ zs) → (is_in_range r.low r.high b ≡ true) × Rest row zs
 rest_cons r row b zs h = go h.xs h.cut h.front
   where
     go : (xs : List ℕ) → b ∷ zs ≡ xs ++ h.ys → fits (r ∷ row) xs ≡ true → (is_in_range r.low r.high b ≡ true) × Rest row zs
-    go [] e f = true_false (sym f)
+    go [] e f = absurd (cc)
     go (x ∷ xs) e f =
         let same : b ≡ x = cc in
         let rest : zs ≡ xs ++ h.ys = cc in
-        let parts = both (is_in_range r.low r.high x) (fits row xs) f in
+        let parts = and_parts (is_in_range r.low r.high x) (fits row xs) f in
         (ap (is_in_range r.low r.high) same ∙ parts.0, record { xs = xs; ys = h.ys; cut = rest; front = parts.1; back = h.back })
 
 pub cons_rest : (r : Range) (row : Row) (b : ℕ) (zs : List ℕ) → is_in_range r.low r.high b ≡ true → Rest row zs → Rest (r ∷ row) (b ∷ zs)
@@ -61,14 +60,14 @@ fits_after n ((r ∷ row) ∷ rows) b c h = go (fits_after (r.high + 1) rows b c
     go : some_fits rows (b ∷ c) ≡ follows (after rows b) c → (w : Bool) → is_in_range r.low r.high b ≡ w → ((is_in_range r.low r.high b && fits row c) || some_fits rows (b ∷ c)) ≡ follows (cond (is_in_range r.low r.high b) (Some row) (after rows b)) c
     go ih true e =
         let last : b < r.high + 1 = omega (arith, upto r.low r.high b e) in
-        rw (e, below (r.high + 1) rows b c h.2 last) (or_false (fits row c))
+        rw (e, below (r.high + 1) rows b c h.2 last) (or-false (fits row c))
     go ih false e = rw e ih
 
 abbrev Cons : ℕ → List ℕ → Type 0
 Cons b zs = (row : Row) × (after table b ≡ Some row) × Rest row zs
 
 picked : (o : Option Row) (c : List ℕ) → follows o c ≡ true → (row : Row) × (o ≡ Some row) × (fits row c ≡ true)
-picked None c e = true_false (sym e)
+picked None c e = absurd (cc)
 picked (Some row) c e = (row, refl, e)
 
 abbrev Split : List ℕ → Type 0
@@ -79,10 +78,10 @@ split ts none = inl refl
 split ts (more c {bs} e o) = inr (c, bs, refl, e, o)
 
 pub octets_cons : (b : ℕ) (zs : List ℕ) → Octets (b ∷ zs) → Cons b zs
-octets_cons b zs o = ⊎_elim (λ e. nil-cons b zs (sym e)) (λ s. go s.0 s.1 s.2 s.3 s.4) (split (b ∷ zs) o)
+octets_cons b zs o = ⊎_elim (λ e. absurd (cc)) (λ s. go s.0 s.1 s.2 s.3 s.4) (split (b ∷ zs) o)
   where
     go : (c bs : List ℕ) → b ∷ zs ≡ c ++ bs → some_fits table c ≡ true → Octets bs → Cons b zs
-    go [] bs e f u = true_false (sym f)
+    go [] bs e f u = absurd (cc)
     go (x ∷ c) bs e f u =
         let same : b ≡ x = cc in
         let rest : zs ≡ c ++ bs = cc in
@@ -121,7 +120,7 @@ each : Each table
 each = (tt, (refl, (refl, (refl, (refl, (refl, (refl, (refl, (refl, tt)))))))))
 
 tailed : (rows : List Row) (b : ℕ) (row : Row) → Each rows → after rows b ≡ Some row → Tailed row
-tailed [] b row h e = let z : ◌≡◌ {A = ℕ} 0 1 = cc in absurd (omega arith)
+tailed [] b row h e = absurd (cc)
 tailed ([] ∷ rows) b row h e = tailed rows b row h e
 tailed ((r ∷ first) ∷ rows) b row h e = go (λ q. tailed rows b row h.1 q) (is_in_range r.low r.high b) e
   where
@@ -152,14 +151,14 @@ no_lead b p q = search rules
 
 some_back : (o : Option Row) → long o ≡ true → o ≡ Some (called o)
 unfolding long
-some_back None l = true_false (sym l)
-some_back (Some []) l = true_false (sym l)
+some_back None l = absurd (cc)
+some_back (Some []) l = absurd (cc)
 some_back (Some (r ∷ rs)) l = refl
 
 not_none : (o : Option Row) (row : Row) → some o ≡ false → o ≡ Some row → ⊥
 unfolding some
-not_none None row s e = let z : ◌≡◌ {A = ℕ} 0 1 = cc in omega arith
-not_none (Some r) row s e = true_false s
+not_none None row s e = (cc)
+not_none (Some r) row s e = absurd (cc)
 
 same_some : (o : Option Row) (r q : Row) → o ≡ Some r → o ≡ Some q → r ≡ q
 same_some o r q d e = cc
@@ -180,7 +179,7 @@ some_same : (m n : Need) → Some m ≡ Some n → m ≡ n
 some_same m n e = cc
 
 none_some : {A : Type 0} (m : Need) → None ≡ Some m → A
-none_some m e = let z : ◌≡◌ {A = ℕ} 0 1 = cc in absurd (omega arith)
+none_some m e = absurd (cc)
 
 -- one byte that the state takes
 pub steps : (n : Need) (b : ℕ) (m : Need) → need_step n b ≡ Some m → Steps n b m

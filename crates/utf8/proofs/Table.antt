@@ -1,18 +1,7 @@
 -- The rows of the table: a first byte has at most one row. Assumes nothing.
-use Rattle.std.proofs.Common.{◌≡◌, ℕ, ◌+◌, ◌<◌, ◌≤◌, Bool, true, false, ◌&&◌, ◌||◌, List, [], ◌∷◌, sym, refl, ap, ◌∙◌, arith, lit≤, rules}
+use Rattle.std.proofs.Common.{◌≡◌, ℕ, ◌+◌, ◌<◌, ◌≤◌, true, false, ◌&&◌, ◌||◌, List, [], ◌∷◌, refl, ap, ◌∙◌, arith, lit≤, rules}
 use Rattle.std.specs.Int.{is_in_range}
 use Rattle.utf8.specs.Utf8.{Row, fits, table, some_fits}
-
-pub true_false : {A : Type 0} → true ≡ false → A
-true_false e = let z : ◌≡◌ {A = ℕ} 0 1 = cc in absurd (omega arith)
-
-pub both : (a b : Bool) → (a && b) ≡ true → (a ≡ true) × (b ≡ true)
-both true b e = (refl, e)
-both false b e = true_false (sym e)
-
-pub or_false : (a : Bool) → (a || false) ≡ a
-or_false true = refl
-or_false false = refl
 
 -- the first bytes of the rows rise, so at most one row begins with a byte
 abbrev pub Rising : ℕ → List Row → Type 0

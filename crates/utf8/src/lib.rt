@@ -5,6 +5,7 @@ ghost use Rattle.std.specs.Prelude.{◌≡◌, ◌++◌, Some, codes, decimal};
 ghost use Rattle.utf8.specs.Steps.{need_step, second_step};
 ghost use Rattle.utf8.specs.Utf8.{Checks, judged};
 
+use std::error::Error;
 use std::fmt;
 
 // Bytes that are not UTF-8.
@@ -18,10 +19,11 @@ impl fmt::Display for Utf8Error {
     ghost output = { λ e. Some (codes "not UTF-8 after the first " ++ decimal e.valid_up_to ++ codes " bytes") };
 
     fn fmt<W: fmt::Write>(&self, f: &mut fmt::Formatter<W>) -> fmt::Result {
-        let valid_up_to = self.valid_up_to;
-        write!(f, "not UTF-8 after the first {valid_up_to} bytes")
+        write!(f, "not UTF-8 after the first {} bytes", self.valid_up_to)
     }
 }
+
+impl Error for Utf8Error {}
 
 // What a character still needs.
 #[derive(Clone, Copy)]
@@ -72,11 +74,8 @@ pub fn check(bytes: &[u8]) -> Result<(), Utf8Error>
     let mut valid_up_to = 0;
     let mut need = Need::Lead;
     for (i, b) in bytes.iter().enumerate() {
-        let Some(then) = next(need, *b) else {
-            return Err(Utf8Error { valid_up_to });
-        };
-        need = then;
-        if let Need::Lead = need {
+        need = next(need, *b).ok_or(Utf8Error { valid_up_to })?;
+        if matches!(need, Need::Lead) {
             valid_up_to = i + 1;
         }
     }

@@ -1,5 +1,5 @@
 use Rattle.std.proofs.Common.{refl}
 use Rattle.bang.proofs.dtd.DtdParserDefault.default.Goals as goal
 
-pub returns : goal.returns
-returns c = record { fresh = refl; examples = record { comment = refl; comment_cut = λ content. refl; unknown = refl; cut = refl } }
+pub returns-clause-examples : goal.returns-clause-examples
+returns-clause-examples c = record { comment = refl; comment_cut = λ content. refl; unknown = refl; cut = refl }

@@ -1,9 +1,5 @@
-use Rattle.bang.specs.Dtd.{dtd_step, dtd_due}
-use Rattle.parser.specs.Machines.{reached_none, reached_more}
+use Rattle.bang.specs.Dtd.{dtd_due}
 use Rattle.bang.proofs.dtd.DtdParserParser.feed.Goals as goal
 
-pub loop-i-init : goal.loop-i-init
-loop-i-init c = reached_none dtd_step dtd_due _ _
-
-pub loop-i-preserved : goal.loop-i-preserved
-loop-i-preserved c = reached_more dtd_step dtd_due _ _ _ _ _ _ c.loop-i.invariant c.loop-i-test.true c.step.ensures c.if-step.false
+pub returns : goal.returns
+returns c = c.feed_bytes.ensures dtd_due

@@ -1,9 +1,5 @@
-use Rattle.parser.specs.Element.{element_step, element_due}
-use Rattle.parser.specs.Machines.{reached_none, reached_more}
+use Rattle.parser.specs.Element.{element_due}
 use Rattle.parser.proofs.element.ElementParserParser.feed.Goals as goal
 
-pub loop-i-init : goal.loop-i-init
-loop-i-init c = reached_none element_step element_due _ _
-
-pub loop-i-preserved : goal.loop-i-preserved
-loop-i-preserved c = reached_more element_step element_due _ _ _ _ _ _ c.loop-i.invariant c.loop-i-test.true c.step.ensures c.if-step.false
+pub returns : goal.returns
+returns c = c.feed_bytes.ensures element_due

@@ -1,0 +1,24 @@
+ghost use Rattle.std.specs.Prelude.{ℕ};
+ghost use Rattle.parser.specs.Bytes.{Move, Moves, FedBytes};
+
+// A scanner that looks at one byte after another.
+pub trait ByteParser {
+    // What a byte does in a state.
+    ghost next: { Self → ℕ → Move Self };
+
+    // Takes one byte; true where it ends the construct.
+    fn step(&mut self, b: u8) -> bool
+        ensures { Moves (next self.old b) result self.new };
+}
+
+// Takes the bytes up to the one that ends the construct, and gives its place; none, where no byte does.
+pub fn feed_bytes<P: ByteParser>(parser: &mut P, bytes: &[u8]) -> Option<usize>
+    ensures { FedBytes P.next parser.old parser.new bytes.now result }
+{
+    for (i, b) in bytes.iter().enumerate() {
+        if parser.step(*b) {
+            return Some(i);
+        }
+    }
+    None
+}
