@@ -1,11 +1,5 @@
 ghost use Rattle.std.specs.Prelude.{◌≡◌};
-ghost use Rattle.bang.specs.Bang.{bang, bang_type};
-ghost use Rattle.bang.specs.Comment.{bang_comment_step, bang_comment_due};
-ghost use Rattle.bang.specs.Dtd.{dtd_step, dtd_due};
-ghost use Rattle.bang.specs.declared.bang.BangType.TheVariants.{CData, Comment, DocType};
-ghost use Rattle.parser.specs.CData.{cdata_due};
-ghost use Rattle.parser.specs.Doubled.{doubled_step};
-ghost use Rattle.parser.specs.Machines;
+ghost use Rattle.bang.specs.Bang.{bang, bang-prefix, bang_type};
 
 use crate::comment::BangCommentParser;
 use crate::dtd::DtdParser;
@@ -36,11 +30,7 @@ impl BangType {
 impl Parser for BangType {
     ghost scan = { bang };
 
-    ghost prefix = { elim [
-      | CData s ↦ Machines.prefix doubled_step cdata_due s
-      | Comment s ↦ Machines.prefix bang_comment_step bang_comment_due s
-      | DocType s ↦ Machines.prefix dtd_step dtd_due s
-    ] };
+    ghost prefix = { bang-prefix };
 
     fn feed(&mut self, bytes: &[u8]) -> Option<usize> {
         match self {

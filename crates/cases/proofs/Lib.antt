@@ -1,3 +1,4 @@
+mod Filled
 pub mod Parts
 mod Numbers
 pub mod Lists

@@ -1,49 +1,50 @@
 -- Lists of words, a word at a time.
-use Rattle.std.proofs.Common.{◌≡◌, ℕ, ◌-◌, ◌≤◌, Bool, true, false, cond, eqb, List, [], ◌∷◌, ◌++◌, length, get_or, take, drop, Some, None, Option, sym, refl, ap, ◌∙◌, append_assoc, arith, Bor}
-use Rattle.std.specs.Option.{option_map}
+use Rattle.std.proofs.Common.{◌≡◌, ℕ, ◌+◌, ◌-◌, ◌<◌, ◌≤◌, List, [], ◌∷◌, ◌++◌, map, length, get_or, take, drop, IsErrAnd, Some, None, Err, Option, Result, sym, refl, ap, ◌∙◌, append_assoc, append-nil, arith, Bor}
+use Rattle.std.proofs.lemmas.List.{drop_more, drop_all, map_push}
+use Rattle.std.proofs.lemmas.Result.{err_from_is_err_and}
 use Rattle.cases.proofs.Parts.{all_behind}
-use Rattle.cases.specs.Words.{before, behind, bound, put_first, split, every, hex_byte_of, pairs_of}
+use Rattle.cases.specs.Read.{Reads}
+use Rattle.cases.specs.Words.{bound, split, every, hex_byte_of, pairs_of}
+use Rattle.cases.specs.declared.bad.Bad.{Bad}
+use Rattle.cases.specs.declared.bad.Bad.TheVariants.{NoCase, NoMemory}
 
 -- what is read after `done`
 abbrev pub after : {A : Type 0} → List A → Option (List A) → Option (List A)
 after done o = bound o (λ more. Some (done ++ more))
+
+after_nothing : {A : Type 0} (o : Option (List A)) → after [] o ≡ o
+after_nothing None = refl
+after_nothing (Some more) = refl
 
 -- one more word
 after_one : {A : Type 0} (done : List A) (a : A) (o : Option (List A)) → after done (bound o (λ more. Some (a ∷ more))) ≡ after (done ++ (a ∷ [])) o
 after_one done a None = refl
 after_one done a (Some more) = ap (λ x. Some x) (sym (append_assoc done (a ∷ []) more))
 
-abbrev pub parts : Option (List ℕ) → List (List ℕ)
-parts None = []
-parts (Some text) = split 44 text
-
-split_cut : (bs : List ℕ) → split 44 bs ≡ before 44 bs ∷ parts (behind 44 bs)
-split_cut [] = refl
-split_cut (b ∷ bs) = go (eqb b 44) (split_cut bs)
-  where
-    go : (v : Bool) → split 44 bs ≡ before 44 bs ∷ parts (behind 44 bs)
-        → cond v ([] ∷ split 44 bs) (put_first b (split 44 bs)) ≡ cond v [] (b ∷ before 44 bs) ∷ parts (cond v (Some bs) (behind 44 bs))
-    go true e = refl
-    go false e = ap (put_first b) e
-
-module _ {A : Type 0} (f : List ℕ → Option A) (text : List ℕ) where
+module _ {W A : Type 0} (view : W → A) (f : List ℕ → Option A) (text : List ℕ) where
   -- the words before `left` are read
-  abbrev pub ListTurn : Option (Bor (List ℕ)) → List A → Type 0
-  ListTurn left done = every f (split 44 text) ≡ after done (every f (parts (option_map (λ x. x.now) left)))
+  abbrev pub ListTurn : List (Bor (List ℕ)) → List W → Type 0
+  ListTurn left done = every f (split 44 text) ≡ after (map view done) (every f (map (λ x. x.now) left))
 
-  module _ (r : Bor (List ℕ)) (done : List A) (t : ListTurn (Some r) done) (word : List ℕ) (is_IsWord : word ≡ before 44 r.now) where
-    here : every f (split 44 text) ≡ after done (bound (f word) (λ a. bound (every f (parts (behind 44 r.now))) (λ more. Some (a ∷ more))))
-    here =
-        t ∙ ap (λ ws. after done (every f ws)) (split_cut r.now)
-        ∙ ap (λ w. after done (bound (f w) (λ a. bound (every f (parts (behind 44 r.now))) (λ more. Some (a ∷ more))))) (sym is_IsWord)
+  pub list_start : (parts : List (Bor (List ℕ))) → map (λ x. x.now) parts ≡ split 44 text → ListTurn parts []
+  list_start parts e = ap (every f) (sym e) ∙ sym (after_nothing (every f (map (λ x. x.now) parts)))
 
-    pub list_next : (rest : Option (Bor (List ℕ))) → option_map (λ x. x.now) rest ≡ behind 44 r.now → (a : A) → f word ≡ Some a → ListTurn rest (done ++ (a ∷ []))
-    list_next rest q a e =
-        here ∙ ap (λ o. after done (bound o (λ a. bound (every f (parts (behind 44 r.now))) (λ more. Some (a ∷ more))))) e
-        ∙ after_one done a (every f (parts (behind 44 r.now))) ∙ ap (λ x. after (done ++ (a ∷ [])) (every f (parts x))) (sym q)
+  module _ (parts : List (Bor (List ℕ))) (done : List W) (i : ℕ) (t : ListTurn (drop i parts) done) where
+    module _ (d : Bor (List ℕ)) (lt : i < length parts) where
+      next_word : every f (split 44 text) ≡ after (map view done) (bound (f (get_or parts i d).now) (λ a. bound (every f (map (λ x. x.now) (drop (i + 1) parts))) (λ more. Some (a ∷ more))))
+      next_word = t ∙ ap (λ ws. after (map view done) (every f (map (λ x. x.now) ws))) (drop_more parts i d lt)
 
-    pub list_refused : f word ≡ None → every f (split 44 text) ≡ None
-    list_refused e = here ∙ ap (λ o. after done (bound o (λ a. bound (every f (parts (behind 44 r.now))) (λ more. Some (a ∷ more))))) e
+      pub list_next : (w : W) → f (get_or parts i d).now ≡ Some (view w) → ListTurn (drop (i + 1) parts) (done ++ (w ∷ []))
+      list_next w e =
+          next_word ∙ ap (λ o. after (map view done) (bound o (λ a. bound (every f (map (λ x. x.now) (drop (i + 1) parts))) (λ more. Some (a ∷ more))))) e
+          ∙ after_one (map view done) (view w) (every f (map (λ x. x.now) (drop (i + 1) parts)))
+          ∙ ap (λ ws. after ws (every f (map (λ x. x.now) (drop (i + 1) parts)))) (sym (map_push view done w))
+
+      pub list_refused : f (get_or parts i d).now ≡ None → every f (split 44 text) ≡ None
+      list_refused e = next_word ∙ ap (λ o. after (map view done) (bound o (λ a. bound (every f (map (λ x. x.now) (drop (i + 1) parts))) (λ more. Some (a ∷ more))))) e
+
+    pub list_whole : length parts ≤ i → every f (split 44 text) ≡ Some (map view done)
+    list_whole e = t ∙ ap (λ ws. after (map view done) (every f (map (λ x. x.now) ws))) (drop_all i parts e) ∙ ap (λ x. Some x) (append-nil (map view done))
 
 two_more : (ds : List ℕ) → 2 ≤ length ds → pairs_of ds ≡ bound (hex_byte_of (get_or ds 0 0) (get_or ds 1 0)) (λ b. bound (pairs_of (drop 2 ds)) (λ bs. Some (b ∷ bs)))
 two_more [] h = absurd (omega arith)
@@ -60,3 +61,11 @@ module _ (text : List ℕ) where
     pair_next b e =
         t ∙ ap (after done) (two_more digits two) ∙ ap (λ o. after done (bound o (λ b. bound (pairs_of (drop 2 digits)) (λ bs. Some (b ∷ bs))))) e
         ∙ after_one done b (pairs_of (drop 2 digits)) ∙ ap (λ ds. after (done ++ (b ∷ [])) (pairs_of ds)) (sym (all_behind 2 digits))
+
+-- a refusal that is passed on
+pub passed : {X Y A B : Type 0} (view : X → A) (whole : Y → B) (r : Result Y Bad) (e : Bad) (word : Option A) (all : Option B) → IsErrAnd r (λ d. d ≡ e) → Reads view (Err e) word → (word ≡ None → all ≡ None) → Reads whole r all
+passed view whole r e word all p h f = let q = err_from_is_err_and r p in rw (q.1, q.2) (go e h)
+  where
+    go : (e : Bad) → Reads view (Err e) word → Reads whole (Err e) all
+    go NoCase h = f h
+    go NoMemory h = tt

@@ -1,72 +1,61 @@
--- Decimal numbers, a digit at a time.
-use Rattle.std.proofs.Common.{◌≡◌, ℕ, ◌+◌, ◌*◌, ◌<◌, ◌≤◌, Bool, true, false, cond, leb, List, [], ◌∷◌, length, get_or, drop, Some, None, Option, sym, refl, ap, ◌∙◌, add-one, arith, drop-cons}
-use Rattle.std.proofs.lemmas.Bool.{leb-true, leb-false, le-leb}
-use Rattle.std.proofs.lemmas.List.{drop_all}
-use Rattle.cases.specs.Words.{between, bound, at_most, appended_of, decimal_from, decimal_of}
+-- Decimal numbers, by what `parse` says of digits alone.
+use Rattle.std.proofs.Common.{◌≡◌, ℕ, ◌^◌, ◌<◌, Bool, true, false, cond, leb, List, [], ◌∷◌, length, Some, None, Ok, Err, Result, MatchResult, OkIff, sym, refl, ap, ◌∙◌, arith, Bor}
+use Rattle.std.specs.Bool.{then_some}
+use Rattle.std.specs.Char.{is_ascii_digit}
+use Rattle.std.specs.List.{list_all}
+use Rattle.std.specs.Result.{result_ok}
+use Rattle.std.specs.Str.{all_ascii_digits, IsUtf8}
+use Rattle.std.specs.Str.Parse.{ParsesUnsigned, digits_value}
+use Rattle.std.proofs.lemmas.Bool.{leb-true}
+use Rattle.std.proofs.lemmas.Fmt.{IsAscii-from_digits}
+use Rattle.std.proofs.lemmas.Str.{IsUtf8-from_ascii}
+use Rattle.std.proofs.lemmas.Str.Parse.{IsNumeralModel, numerals_by_value, tells_all_ascii_digits, parse_digits}
+use Rattle.cases.specs.Words.{bound, at_most, decimal_of}
 
--- the first i digits make n
-pub record Turn (most : ℕ) (ds : List ℕ) (i n : ℕ) : Type 0 where
-  pub value : decimal_of most ds ≡ bound (decimal_from n (drop i ds)) (at_most most)
-  pub small : n ≤ most
+own : IsNumeralModel (λ ds. all_ascii_digits ds ≡ true) (digits_value 10)
+own = numerals_by_value _ tells_all_ascii_digits
 
-pub start : (most : ℕ) (ds : List ℕ) → (length ds ≡ 0 → ⊥) → Turn most ds 0 0
-start most [] h = absurd (h refl)
-start most (d ∷ ds) h = record { value = refl; small = omega arith }
+pub list_all-digits : (ds : List ℕ) → list_all is_ascii_digit ds ≡ all_ascii_digits ds
+list_all-digits [] = refl
+list_all-digits (d ∷ ds) = rw (list_all-digits ds) refl
 
-absent : {A B : Type 0} (a : A) → None ≡ Some a → B
-absent a h = let z : ◌≡◌ {A = ℕ} 0 1 = cc in absurd (omega arith)
+pub no_number : (most : ℕ) (ds : List ℕ) → all_ascii_digits ds ≡ false → None ≡ decimal_of most ds
+no_number most [] h = refl
+no_number most (d ∷ ds) h = rw h refl
 
--- a number that is too large stays so
-above : (most n : ℕ) (ds : List ℕ) → most < n → bound (decimal_from n ds) (at_most most) ≡ None
-above most n [] h = go (leb n most) refl
-  where
-    go : (v : Bool) → leb n most ≡ v → cond v (Some n) None ≡ None
-    go true e = let l = leb-true n most e in absurd (omega arith)
-    go false e = refl
-above most n (b ∷ ds) h = go (between 48 57 b) (λ d. above most (n * 10 + d) ds (omega arith))
-  where
-    go : (o : Option ℕ) → ((d : ℕ) → bound (decimal_from (n * 10 + d) ds) (at_most most) ≡ None) → bound (bound o (λ d. decimal_from (n * 10 + d) ds)) (at_most most) ≡ None
-    go None k = refl
-    go (Some d) k = k d
-
-module _ (most n : ℕ) (ds : List ℕ) where
-  one_more : (o : Option ℕ) (m : ℕ) → bound o (λ d. at_most most (n * 10 + d)) ≡ Some m
-      → (bound (bound o (λ d. decimal_from (n * 10 + d) ds)) (at_most most) ≡ bound (decimal_from m ds) (at_most most)) × (m ≤ most)
-  one_more None m h = absent m h
-  one_more (Some d) m h = go (leb (n * 10 + d) most) refl h
+-- digits are a text
+module _ {E : Type 0} (Q : E → Type 0) (ds : List ℕ) (r : Result (Bor (List ℕ)) E) (p : MatchResult r (λ s. (s.now ≡ ds) × IsUtf8 ds) (λ e. ¬ (IsUtf8 ds) × Q e)) where
+  pub not_refused : {A : Type 0} → all_ascii_digits ds ≡ true → None ≡ result_ok r → A
+  not_refused h = go r p
     where
-      go : (v : Bool) → leb (n * 10 + d) most ≡ v → cond v (Some (n * 10 + d)) None ≡ Some m
-          → (bound (decimal_from (n * 10 + d) ds) (at_most most) ≡ bound (decimal_from m ds) (at_most most)) × (m ≤ most)
-      go true e k =
-          let same : n * 10 + d ≡ m = cc in
-          let l = leb-true (n * 10 + d) most e in
-          (ap (λ x. bound (decimal_from x ds) (at_most most)) same, omega arith)
-      go false e k = absent m k
+      go : {A : Type 0} (r : Result (Bor (List ℕ)) E) → MatchResult r (λ s. (s.now ≡ ds) × IsUtf8 ds) (λ e. ¬ (IsUtf8 ds) × Q e) → None ≡ result_ok r → A
+      go (Ok s) p e = cc
+      go (Err d) p e = absurd (p.0 (IsUtf8-from_ascii ds (IsAscii-from_digits ds (own.to ds h))))
 
-  no_more : (o : Option ℕ) → bound o (λ d. at_most most (n * 10 + d)) ≡ None → bound (bound o (λ d. decimal_from (n * 10 + d) ds)) (at_most most) ≡ None
-  no_more None h = refl
-  no_more (Some d) h = go (leb (n * 10 + d) most) refl h
+  pub same_text : (s : Bor (List ℕ)) → Some s ≡ result_ok r → s.now ≡ ds
+  same_text s = go r p
     where
-      go : (v : Bool) → leb (n * 10 + d) most ≡ v → cond v (Some (n * 10 + d)) None ≡ None → bound (decimal_from (n * 10 + d) ds) (at_most most) ≡ None
-      go true e k = absent (n * 10 + d) (sym k)
-      go false e k = let l = leb-false (n * 10 + d) most e in above most (n * 10 + d) ds (omega arith)
+      go : (r : Result (Bor (List ℕ)) E) → MatchResult r (λ s. (s.now ≡ ds) × IsUtf8 ds) (λ e. ¬ (IsUtf8 ds) × Q e) → Some s ≡ result_ok r → s.now ≡ ds
+      go (Ok t) p e = let same : s ≡ t = cc in ap (λ x. x.now) same ∙ p.0
+      go (Err d) p e = cc
 
-module _ (most : ℕ) (ds : List ℕ) (i n : ℕ) (t : Turn most ds i n) (l : i < length ds) where
-  at_digit : drop i ds ≡ get_or ds i 0 ∷ drop (i + 1) ds
-  at_digit = rw add-one (drop-cons ds i 0 l)
+module _ {E : Type 0} (most : ℕ) (small : most < 2 ^ 64) where
+  -- a number that is too large for 64 bits is above `most`
+  unparsed : (ds : List ℕ) (e : E) → all_ascii_digits ds ≡ true → OkIff {T = ℕ} (Err e) ((0 < length ds) × (digits_value 10 ds < 2 ^ 64)) (digits_value 10 ds) → decimal_of most ds ≡ None
+  unparsed [] e h p = refl
+  unparsed (d ∷ ds) e h p = rw h (go (leb (digits_value 10 (d ∷ ds)) most) refl)
+    where
+      go : (b : Bool) → leb (digits_value 10 (d ∷ ds)) most ≡ b → cond b (Some (digits_value 10 (d ∷ ds))) None ≡ None
+      go true l = let k = leb-true _ _ l in absurd (p (omega arith, omega arith))
+      go false l = refl
 
-  here : decimal_of most ds ≡ bound (bound (between 48 57 (get_or ds i 0)) (λ d. decimal_from (n * 10 + d) (drop (i + 1) ds))) (at_most most)
-  here = t.value ∙ ap (λ x. bound (decimal_from n x) (at_most most)) at_digit
+  pub parsed : (ds : List ℕ) (r : Result ℕ E) → all_ascii_digits ds ≡ true → ParsesUnsigned 64 10 ds r → decimal_of most ds ≡ bound (result_ok r) (at_most most)
+  parsed ds r h p = go ds r h (parse_digits own 64 ds r p h)
+    where
+      go : (ds : List ℕ) (r : Result ℕ E) → all_ascii_digits ds ≡ true → OkIff r ((0 < length ds) × (digits_value 10 ds < 2 ^ 64)) (digits_value 10 ds) → decimal_of most ds ≡ bound (result_ok r) (at_most most)
+      go ds (Err e) h p = unparsed ds e h p
+      go [] (Ok n) h p = let l = p.0.0 in absurd (omega arith)
+      go (d ∷ ds) (Ok n) h p = rw h (ap (at_most most) (sym p.1))
 
-  pub next : (m : ℕ) → Some m ≡ appended_of most n (get_or ds i 0) → Turn most ds (i + 1) m
-  next m h =
-      let q = one_more most n (drop (i + 1) ds) (between 48 57 (get_or ds i 0)) m (sym h) in
-      record { value = here ∙ q.0; small = q.1 }
-
-  pub refused : None ≡ appended_of most n (get_or ds i 0) → None ≡ decimal_of most ds
-  refused h = sym (here ∙ no_more most n (drop (i + 1) ds) (between 48 57 (get_or ds i 0)) (sym h))
-
-pub whole : (most : ℕ) (ds : List ℕ) (i n : ℕ) → Turn most ds i n → length ds ≤ i → Some n ≡ decimal_of most ds
-whole most ds i n t h =
-    let e = le-leb n most t.small in
-    sym (t.value ∙ ap (λ x. bound (decimal_from n x) (at_most most)) (drop_all i ds h) ∙ rw e refl)
+pub at_most-then_some : (most n : ℕ) → then_some (leb n most) n ≡ at_most most n
+at_most-then_some most n = elim (leb n most) as (λ b. then_some b n ≡ cond b (Some n) None) [ true ↦ refl | false ↦ refl ]

@@ -4,11 +4,12 @@
 mod bad;
 mod case;
 mod line;
+mod lines;
 mod step;
 mod words;
 
 pub use bad::Bad;
-pub use case::{Case, field, parse};
-pub use line::{case_line, write_bad};
+pub use case::{Case, fields, parse};
+pub use lines::answer_lines;
 pub use step::{Call, LONGEST, Spending, Step};
-pub use words::{cut_at, hex, spells};
+pub use words::{Word, list};

@@ -9,15 +9,7 @@ use std::alloc::AllocError;
 fn without_return(line: &[u8]) -> &[u8]
     ensures { result.now ≡ without_return line.now }
 {
-    if line.is_empty() {
-        return line;
-    }
-    let last = line.len() - 1;
-    if line[last] == b'\r' {
-        &line[..last]
-    } else {
-        line
-    }
+    line.strip_suffix(b"\r").unwrap_or(line)
 }
 
 // A line without the carriage return that may end it; none where it is empty or a comment.
@@ -25,7 +17,7 @@ pub fn case_line(line: &[u8]) -> Option<&[u8]>
     ensures { option_map (λ x. x.now) result ≡ case_line (without_return line.now) }
 {
     let text = without_return(line);
-    if text.is_empty() || text[0] == b'#' {
+    if text.is_empty() || text.starts_with(b"#") {
         return None;
     }
     Some(text)

@@ -1,94 +1,44 @@
 // The parts of a case's text.
-ghost use Rattle.std.specs.Prelude.{◌≡◌, ℕ, ◌<◌, List, length, IfSome, vec_items, Option};
+ghost use Rattle.std.specs.Prelude.{◌≡◌, ℕ, ◌<◌, ◌≤◌, List, length, map, IfOk, IfSome, vec_items, Option};
 ghost use Rattle.std.specs.Option.{option_map};
-ghost use Rattle.std.specs.Str.{bytes_eq};
 ghost use Rattle.cases.specs.Read.{Reads};
-ghost use Rattle.cases.specs.Words.{before, behind, split, every, none_or, appended_of, decimal_of, hex_digit_of, hex_byte_of, pairs_of};
+ghost use Rattle.cases.specs.Words.{before, behind, split, every, none_or, decimal_of, hex_byte_of, pairs_of};
 
 use super::bad::Bad;
-use std::alloc::Global;
+use std::alloc::{AllocError, Global};
+use std::str;
 
 // What stands before the first `separator`, and what behind it, where there is one.
-pub fn cut_at(text: &[u8], separator: u8) -> (&[u8], Option<&[u8]>)
+pub(crate) fn cut_at(text: &[u8], separator: u8) -> (&[u8], Option<&[u8]>)
     ensures front { result.0.now ≡ before separator text.now }
     ensures rest { option_map (λ x. x.now) result.1 ≡ behind separator text.now }
     ensures shorter { IfSome result.1 (λ rest. length rest.now < length text.now) }
 {
-    for (i, b) in text.iter().enumerate() {
-        if *b == separator {
-            return (&text[..i], Some(&text[i + 1..]));
-        }
+    match text.iter().position(|b| *b == separator) {
+        Some(i) => (&text[..i], Some(&text[i + 1..])),
+        None => (text, None),
     }
-    (text, None)
 }
 
-pub fn spells(text: &[u8], word: &[u8]) -> bool
-    ensures { result ≡ bytes_eq text.now word.now }
-{
-    text == word
-}
-
-// A number with one more digit, where that is a digit and the number is no more than `most`.
-fn appended(number: u64, digit: u8, most: u64) -> Option<u64>
-    ensures { result ≡ appended_of most number digit }
-{
-    if digit < b'0' || digit > b'9' {
-        return None;
-    }
-    let longer = number
-        .checked_mul(10)?
-        .checked_add(u64::from(digit - b'0'))?;
-    if longer <= most { Some(longer) } else { None }
-}
-
-// A number in decimal digits, of which there is at least one.
+// A number in decimal digits, of which there is at least one, where it is no more than `most`.
 pub(crate) fn decimal(digits: &[u8], most: u64) -> Option<u64>
-    ensures { result ≡ decimal_of most digits.now }
+    ensures value { result ≡ decimal_of most digits.now }
+    ensures small { IfSome result (λ n. n ≤ most) }
 {
-    if digits.is_empty() {
+    if !digits.iter().all(|b| b.is_ascii_digit()) {
         return None;
     }
-    let mut number = 0;
-    for digit in digits {
-        number = appended(number, *digit, most)?;
-    }
-    Some(number)
+    let number = u64::from_str_radix(str::from_utf8(digits).ok()?, 10).ok()?;
+    (number <= most).then_some(number)
 }
 
-pub(crate) fn decimal_u8(digits: &[u8]) -> Option<u8>
-    ensures { result ≡ decimal_of 255 digits.now }
-{
-    u8::try_from(decimal(digits, 255)?).ok()
-}
-
-pub(crate) fn decimal_u16(digits: &[u8]) -> Option<u16>
-    ensures { result ≡ decimal_of 65535 digits.now }
-{
-    u16::try_from(decimal(digits, 65535)?).ok()
-}
-
-pub(crate) fn decimal_u32(digits: &[u8]) -> Option<u32>
-    ensures { result ≡ decimal_of 4294967295 digits.now }
-{
-    u32::try_from(decimal(digits, 4294967295)?).ok()
-}
-
-fn hex_digit(b: u8) -> Option<u8>
-    ensures value { result ≡ hex_digit_of b }
-    ensures small { IfSome result (λ d. d < 16) }
-{
-    match b {
-        b'0'..=b'9' => Some(b - b'0'),
-        b'a'..=b'f' => Some(b - b'a' + 10),
-        b'A'..=b'F' => Some(b - b'A' + 10),
-        _ => None,
-    }
-}
-
+// The byte of two hexadecimal digits.
 fn hex_byte(high: u8, low: u8) -> Option<u8>
     ensures { result ≡ hex_byte_of high low }
 {
-    Some(hex_digit(high)? * 16 + hex_digit(low)?)
+    let high = char::from(high).to_digit(16)?;
+    let low = char::from(low).to_digit(16)?;
+    Some((high * 16 + low) as u8)
 }
 
 // The bytes that pairs of hexadecimal digits stand for.
@@ -97,12 +47,9 @@ fn pairs(heap: Global, text: &[u8]) -> Result<Vec<u8>, Bad>
 {
     let mut bytes = Vec::new(heap);
     let mut digits = text;
-    while digits.len() >= 2 {
-        let Some(byte) = hex_byte(digits[0], digits[1]) else {
-            return Err(Bad::NoCase);
-        };
-        bytes.push(byte)?;
-        digits = &digits[2..];
+    while let [high, low, rest @ ..] = digits {
+        bytes.push(hex_byte(*high, *low).ok_or(Bad::NoCase)?)?;
+        digits = rest;
     }
     if digits.is_empty() {
         Ok(bytes)
@@ -112,44 +59,71 @@ fn pairs(heap: Global, text: &[u8]) -> Result<Vec<u8>, Bad>
 }
 
 // Pairs of hexadecimal digits, or `-` for none.
-pub fn hex(heap: Global, text: &[u8]) -> Result<Vec<u8>, Bad>
+pub(crate) fn hex(heap: Global, text: &[u8]) -> Result<Vec<u8>, Bad>
     ensures { Reads vec_items result (none_or pairs_of text.now) }
 {
-    if spells(text, b"-") {
-        return Ok(Vec::new(heap));
+    match text {
+        b"-" => Ok(Vec::new(heap)),
+        digits => pairs(heap, digits),
     }
-    pairs(heap, text)
 }
 
 // What an entry of a list is read as.
-pub(crate) trait Word {
-    ghost meaning: { List ℕ → Option Self };
+pub trait Word: Drop {
+    // what a word stands for
+    ghost Meant: { Type 0 };
 
-    fn read(text: &[u8]) -> Option<Self>
-        ensures { result ≡ meaning text.now };
+    ghost view: { Self → Meant };
+
+    ghost meaning: { List ℕ → Option Meant };
+
+    fn read(heap: Global, text: &[u8]) -> Result<Self, Bad>
+        ensures { Reads view result (meaning text.now) };
 }
 
 impl Word for u8 {
+    ghost Meant = { ℕ };
+
+    ghost view = { λ n. n };
+
     ghost meaning = { decimal_of 255 };
 
-    fn read(text: &[u8]) -> Option<u8> {
-        decimal_u8(text)
+    fn read(_heap: Global, text: &[u8]) -> Result<u8, Bad> {
+        Ok(decimal(text, u8::MAX as u64).ok_or(Bad::NoCase)? as u8)
     }
 }
 
-// Entries with commas between them.
-pub(crate) fn list<W: Word + Drop>(heap: Global, text: &[u8]) -> Result<Vec<W>, Bad>
-    ensures { Reads vec_items result (every W.Word.meaning (split 44 text.now)) }
+// A run of bytes.
+impl Word for Vec<u8> {
+    ghost Meant = { List ℕ };
+
+    ghost view = { λ v. v.items };
+
+    ghost meaning = { none_or pairs_of };
+
+    fn read(heap: Global, text: &[u8]) -> Result<Vec<u8>, Bad> {
+        hex(heap, text)
+    }
+}
+
+// The parts between the separators.
+pub(crate) fn parts<'a>(
+    heap: Global,
+    text: &'a [u8],
+    separator: u8,
+) -> Result<Vec<&'a [u8]>, AllocError>
+    ensures { IfOk result (λ v. map (λ x. x.now) v.items ≡ split separator text.now) }
+{
+    text.split(|b| *b == separator).collect(heap)
+}
+
+// Words with commas between them.
+pub fn list<W: Word>(heap: Global, text: &[u8]) -> Result<Vec<W>, Bad>
+    ensures { Reads (λ v. map W.view v.items) result (every W.meaning (split 44 text.now)) }
 {
     let mut all = Vec::new(heap);
-    let mut left = Some(text);
-    while let Some(entries) = left {
-        let (entry, rest) = cut_at(entries, b',');
-        let Some(word) = W::read(entry) else {
-            return Err(Bad::NoCase);
-        };
-        all.push(word)?;
-        left = rest;
+    for entry in parts(heap, text, b',')?.as_slice() {
+        all.push(W::read(heap, *entry)?)?;
     }
     Ok(all)
 }
@@ -158,8 +132,8 @@ pub(crate) fn list<W: Word + Drop>(heap: Global, text: &[u8]) -> Result<Vec<W>, 
 pub(crate) fn entries(heap: Global, text: &[u8]) -> Result<Vec<u8>, Bad>
     ensures { Reads vec_items result (none_or (λ t. every (decimal_of 255) (split 44 t)) text.now) }
 {
-    if spells(text, b"-") {
-        return Ok(Vec::new(heap));
+    match text {
+        b"-" => Ok(Vec::new(heap)),
+        numbers => list(heap, numbers),
     }
-    list(heap, text)
 }

@@ -1,7 +1,7 @@
 // How a caller deals with the token of an opening.
 #![tactic(auto)]
 
-use model::{Peeked, ReadText, Refusal, Refused};
+use model::{ReadText, Refusal, Refused};
 use parser::ElementParser;
 use reader::{OpeningToken, Reader};
 use source::Source;
@@ -12,8 +12,8 @@ pub fn read_on<S: Source>(
     buf: &mut [u8],
 ) -> Result<Result<(), Refused<OpeningToken>>, Refusal> {
     match reader.peek_one(0)? {
-        Peeked::Byte(_, token) => Ok(reader.abandon(token)),
-        Peeked::Nothing => {
+        Some((_, token)) => Ok(reader.abandon(token)),
+        None => {
             let _ = reader.read_text(buf, 0);
             Ok(Ok(()))
         }

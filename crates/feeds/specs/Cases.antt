@@ -1,6 +1,5 @@
 -- What a line means as a case of a scanner.
-use Rattle.std.specs.Prelude.{ℕ, true, false, cond, List, [], ◌∷◌, map, Some, vec_items, codes, Option, Vec}
-use Rattle.std.specs.Borrow.{Bor}
+use Rattle.std.specs.Prelude.{ℕ, true, false, cond, List, [], ◌∷◌, map, Some, None, vec_items, codes, Option, Vec}
 use Rattle.std.specs.Str.{bytes_eq}
 use Rattle.bang.specs.Bang.{bang_type}
 use Rattle.parser.specs.Pi.{after_question}
@@ -12,7 +11,7 @@ use Rattle.bang.specs.declared.dtd.DtdParser.TheVariants.{Before}
 use Rattle.parser.specs.declared.element.ElementParser.{ElementParser}
 use Rattle.parser.specs.declared.element.ElementParser.TheVariants.{Outside, SingleQ, DoubleQ}
 use Rattle.parser.specs.declared.pi.PiParser.{PiParser}
-use Rattle.cases.specs.Fields.{field_of, at_last}
+use Rattle.cases.specs.Fields.{fields_of}
 use Rattle.cases.specs.Steps.{look_up}
 use Rattle.cases.specs.Words.{bound, split, every, none_or, pairs_of}
 use Rattle.feeds.specs.declared.case.Case.{Case}
@@ -43,15 +42,6 @@ scanner_of name state =
     (cond (bytes_eq name (codes "dtd")) (bound (dtd_of state) (λ s. Some (Dtd s)))
     (bound (bang_of name) (λ s. Some (Bang s))))))
 
--- the id, the scanner, and the runs as they are written
-abbrev pub meant_fields : (Bor (List ℕ) × Scanner × Bor (List ℕ)) → (List ℕ × Scanner × List ℕ)
-meant_fields f = (f.0.now, f.1, f.2.now)
-
-abbrev pub fields_of : List ℕ → Option (List ℕ × Scanner × List ℕ)
-fields_of line =
-    bound (field_of (Some line)) (λ id. bound (field_of id.1) (λ name. bound (field_of name.1) (λ state. bound (field_of state.1) (λ runs.
-    at_last runs.1 (bound (scanner_of name.0 state.0) (λ s. Some (id.0, s, runs.0)))))))
-
 abbrev pub meant_runs : {Z : Type 0} → List (Vec ℕ Z) → List (List ℕ)
 meant_runs = map vec_items
 
@@ -63,6 +53,11 @@ pub record Meant : Type 0 where
 abbrev pub meant_case : Case → Meant
 meant_case c = record { id = c.id.now; scanner = c.scanner; runs = meant_runs (vec_items c.runs) }
 
+-- four fields
+abbrev pub case_in : List (List ℕ) → Option Meant
+case_in (id ∷ name ∷ state ∷ runs ∷ []) =
+    bound (scanner_of name state) (λ s. bound (every (none_or pairs_of) (split 44 runs)) (λ rs. Some (record { id = id; scanner = s; runs = rs })))
+case_in fields = None
+
 abbrev pub case_of : List ℕ → Option Meant
-case_of line =
-    bound (fields_of line) (λ f. bound (every (none_or pairs_of) (split 44 f.2)) (λ runs. Some (record { id = f.0; scanner = f.1; runs = runs })))
+case_of line = bound (fields_of line) case_in

@@ -73,6 +73,7 @@ pub fn feed_scanner(heap: Global, scanner: Scanner, runs: &[Vec<u8>]) -> Result<
     ensures fault { IfOk result (λ a. a.fault ≡ fault_of (meaning_of scanner) (content_of scanner runs.now) (meant_runs runs.now)) }
 {
     let content = joined_runs(heap, opening(scanner), runs)?;
+    // `Parser` for the enum would have these arms in each of its two methods
     match scanner {
         Scanner::Elem(parser) => feed_all(heap, parser, runs, content.as_slice()),
         Scanner::Pi(parser) => feed_all(heap, parser, runs, content.as_slice()),

@@ -6,21 +6,14 @@ ghost use Rattle.gather.specs.Scanned.{Scanned};
 use model::{RefEnd, TextEnd};
 use parser::{Parser, SyntaxError};
 
-// Where a piece ends in a run: not in it, before the byte at a place, or with it.
-#[derive(Clone, Copy, Debug)]
-pub enum Scan<E> {
-    Open,
-    Before(usize, E),
-    Through(usize, E),
-}
-
 // Says where a piece ends, fed with one run after another.
 pub trait Cutter {
     type End;
 
     ghost cuts: { Self → List ℕ → Cut Self.End };
 
-    fn scan(&mut self, run: &[u8]) -> Scan<Self::End>
+    // Where the piece ends in the run, if it does: how many bytes of the run belong to it, and what ended it.
+    fn scan(&mut self, run: &[u8]) -> Option<(usize, Self::End)>
         ensures { Scanned (cuts self.old) (cuts self.new) run.now result };
 
     // What ended the piece where the source ends.
@@ -37,15 +30,15 @@ impl Cutter for Text {
 
     ghost cuts = { λ _. text_cut };
 
-    fn scan(&mut self, run: &[u8]) -> Scan<TextEnd> {
+    fn scan(&mut self, run: &[u8]) -> Option<(usize, TextEnd)> {
         for (i, b) in run.iter().enumerate() {
             match *b {
-                b'<' => return Scan::Before(i, TextEnd::Markup),
-                b'&' => return Scan::Before(i, TextEnd::Ref),
+                b'<' => return Some((i, TextEnd::Markup)),
+                b'&' => return Some((i, TextEnd::Ref)),
                 _ => {}
             }
         }
-        Scan::Open
+        None
     }
 
     fn at_end(self, _content: &[u8]) -> TextEnd {
@@ -73,18 +66,18 @@ impl Cutter for Reference {
 
     ghost cuts = { λ c. ref_from c.begun };
 
-    fn scan(&mut self, run: &[u8]) -> Scan<RefEnd> {
+    fn scan(&mut self, run: &[u8]) -> Option<(usize, RefEnd)> {
         for (i, b) in run.iter().enumerate() {
             match (self.begun, *b) {
                 (false, b'&') => self.begun = true,
-                (false, _) => return Scan::Before(i, RefEnd::NotRef),
-                (true, b';') => return Scan::Through(i, RefEnd::Semicolon),
-                (true, b'&') => return Scan::Before(i, RefEnd::Ref),
-                (true, b'<') => return Scan::Before(i, RefEnd::Markup),
+                (false, _) => return Some((i, RefEnd::NotRef)),
+                (true, b';') => return Some((i + 1, RefEnd::Semicolon)),
+                (true, b'&') => return Some((i, RefEnd::Ref)),
+                (true, b'<') => return Some((i, RefEnd::Markup)),
                 (true, _) => {}
             }
         }
-        Scan::Open
+        None
     }
 
     fn at_end(self, _content: &[u8]) -> RefEnd {
@@ -101,11 +94,9 @@ impl<P: Parser + Drop> Cutter for Scanner<P> {
 
     ghost cuts = { λ c. scan_cut (P.Parser.scan c.0) };
 
-    fn scan(&mut self, run: &[u8]) -> Scan<Result<(), SyntaxError>> {
-        match self.0.feed(run) {
-            Some(i) => Scan::Through(i, Ok(())),
-            None => Scan::Open,
-        }
+    fn scan(&mut self, run: &[u8]) -> Option<(usize, Result<(), SyntaxError>)> {
+        let i = self.0.feed(run)?;
+        Some((i + 1, Ok(())))
     }
 
     fn at_end(self, content: &[u8]) -> Result<(), SyntaxError> {

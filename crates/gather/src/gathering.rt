@@ -6,30 +6,31 @@ ghost use Rattle.model.specs.Peek.{await, awaited};
 ghost use Rattle.gather.specs.Named.{named};
 ghost use Rattle.gather.specs.Resume.{resumed, reach, fitted, is_byte};
 
-use super::cutter::{Cutter, Scan};
-use answers::invalid_bang;
+use super::cutter::Cutter;
 use bang::BangType;
 use errors::Error;
-use model::Ending;
+use parser::SyntaxError;
 use source::{Look, Source};
 
+// The clauses below say one after another that what stands behind the source's bytes stays: a source is its caller's, so that no
+// type of ours can say it once.
+
 // How many bytes of a run of `len` go into `room`, and how the piece ends there if it does.
-fn fit<E: Drop>(scan: Scan<E>, len: usize, room: usize) -> (usize, Option<Ending<E>>)
-    requires { (reach scan len).0 ≤ len }
-    ensures value { result ≡ fitted scan len room }
+fn fit<E: Drop>(
+    found: Option<(usize, E)>,
+    len: usize,
+    room: usize,
+) -> (usize, Option<Result<E, Error>>)
+    requires { (reach found len).0 ≤ len }
+    ensures value { result ≡ fitted found len room }
     ensures within { result.0 ≤ len }
     ensures room { result.0 ≤ room }
-    ensures whole { result.1 ≡ None → (scan ≡ Scan.Open) × (result.0 ≡ len) }
+    ensures whole { result.1 ≡ None → (found ≡ None) × (result.0 ≡ len) }
 {
-    let (n, ending) = match scan {
-        Scan::Open => (len, None),
-        Scan::Before(k, end) => (k, Some(Ending::Ended(end))),
-        Scan::Through(k, end) => (k + 1, Some(Ending::Ended(end))),
-    };
-    if n <= room {
-        (n, ending)
-    } else {
-        (room, Some(Ending::Full))
+    match found {
+        Some((n, end)) if n <= room => (n, Some(Ok(end))),
+        None if len <= room => (len, None),
+        _ => (room, Some(Err(Error::BufferFull))),
     }
 }
 
@@ -39,7 +40,7 @@ fn copy_run<S: Source, C: Cutter>(
     cutter: &mut C,
     buf: &mut [u8],
     written: usize,
-) -> (usize, Option<Ending<C::End>>)
+) -> (usize, Option<Result<C::End, Error>>)
 where
     C::End: Drop,
     requires within { written ≤ length buf.old }
@@ -67,7 +68,7 @@ pub fn gather<S: Source, C: Cutter + Drop>(
     buf: &mut [u8],
     at: usize,
     patience: u32,
-) -> (usize, Ending<C::End>)
+) -> (usize, Result<C::End, Error>)
 where
     C::End: Drop,
     ensures all { gathering (C.Cutter.cuts cutter (bytes_of (S.Source.stream source.old))) (length buf.old) (front at buf.old) patience (S.Source.stream source.old).items (S.Source.stream source.old).tail ≡ gathered (front result.0 buf.new) (S.Source.stream source.new).items result.1 }
@@ -81,16 +82,16 @@ where
     loop {
         match source.look() {
             Look::Wait => {
-                if left == 0 {
-                    return (written, Ending::Worn);
-                }
-                left -= 1;
+                let Some(fewer) = left.checked_sub(1) else {
+                    return (written, Err(Error::Patience));
+                };
+                left = fewer;
             }
             Look::End => {
                 let end = cutter.at_end(&buf[0..written]);
-                return (written, Ending::Ended(end));
+                return (written, Ok(end));
             }
-            Look::Fault(fault) => return (written, Ending::Fault(fault)),
+            Look::Fault(fault) => return (written, Err(fault.into())),
             Look::Ready => {
                 let (end, ending) = copy_run(source, &mut cutter, buf, written);
                 written = end;
@@ -102,7 +103,7 @@ where
     }
 }
 
-// Passes waits until there is a byte, which stays, or the end: what there is, and the patience left.
+// Passes waits until there is a byte, which stays, or the end: what there is, and the patience left, which a refusal leaves too.
 pub fn await_byte<S: Source>(source: &mut S, patience: u32) -> (Result<Option<u8>, Error>, u32)
     ensures all { await patience (S.Source.stream source.old).items (S.Source.stream source.old).tail ≡ awaited result.0 (S.Source.stream source.new).items result.1 }
     ensures tail { (S.Source.stream source.new).tail ≡ (S.Source.stream source.old).tail }
@@ -112,13 +113,13 @@ pub fn await_byte<S: Source>(source: &mut S, patience: u32) -> (Result<Option<u8
     loop {
         match source.look() {
             Look::Wait => {
-                if left == 0 {
+                let Some(fewer) = left.checked_sub(1) else {
                     return (Err(Error::Patience), 0);
-                }
-                left -= 1;
+                };
+                left = fewer;
             }
             Look::End => return (Ok(None), left),
-            Look::Fault(fault) => return (Err(Error::from(fault)), left),
+            Look::Fault(fault) => return (Err(fault.into()), left),
             Look::Ready => {
                 let run = source.show();
                 return (Ok(Some(run[0])), left);
@@ -136,20 +137,12 @@ pub fn bang_type<S: Source>(source: &mut S, patience: u32) -> Result<(BangType, 
     let mut left = patience;
     let bang = loop {
         match source.look() {
-            Look::Wait => {
-                if left == 0 {
-                    return Err(Error::Patience);
-                }
-                left -= 1;
-            }
-            Look::End => return Err(invalid_bang()),
-            Look::Fault(fault) => return Err(Error::from(fault)),
+            Look::Wait => left = left.checked_sub(1).ok_or(Error::Patience)?,
+            Look::End => return Err(Error::Syntax(SyntaxError::InvalidBangMarkup)),
+            Look::Fault(fault) => return Err(fault.into()),
             Look::Ready => {
                 let run = source.show();
-                match BangType::new(run[0]) {
-                    Some(bang) => break bang,
-                    None => return Err(invalid_bang()),
-                }
+                break BangType::new(run[0]).ok_or(Error::Syntax(SyntaxError::InvalidBangMarkup))?;
             }
         }
     };

@@ -3,24 +3,21 @@ use Rattle.std.proofs.Common.{◌≡◌, ℕ, zero, suc, ◌+◌, Bool, true, fa
 use mathlib.Core.List.{map-append}
 use Rattle.source.specs.Stream.{Item, byte, wait, Tail, end, fault, bytes_in, bytes_of}
 use Rattle.source.proofs.Streams.{bytes_plain}
-use Rattle.bang.specs.Bang.{bang, bang_type}
+use Rattle.bang.specs.Bang.{bang}
 use Rattle.bang.specs.declared.bang.BangType.{BangType}
 use Rattle.model.specs.Told.{told}
 use Rattle.model.specs.Cut.{Cut, at_end, scan_cut}
 use Rattle.model.specs.Gather.{Gathered, gathered, next, gather}
-use Rattle.model.specs.Call.{State, state, left_with, Outcome, outcome, pends, admitted, finished, chain, over, spending, with_piece, Reading, unless_early, reads, text_reading, ref_reading, with_reading}
+use Rattle.model.specs.Call.{State, state, left_with, Outcome, outcome, pends, admitted, chain, over, spending, with_piece, Reading, unless_early, reads, text_reading, ref_reading, with_reading}
 use Rattle.model.specs.Peek.{await, peek_none, peek_after, peek_from, peek_unless, peeks, abandon_unless, abandons}
-use Rattle.model.specs.Bang.{bang_prefix, with_kind, kind_of, bang_named, bang_after, bang_from, bang_unless, bangs}
+use Rattle.model.specs.Bang.{bang_of, bang_prefix, with_kind, kind_of, bang_named, bang_after, bang_from, bang_unless, bangs}
 use Rattle.model.specs.History.{Call, read_text, read_ref, peek_one, read_with, read_bang_element, abandon, Event, event, answering, does}
 use Rattle.model.specs.Agree.{Alike, Same, read_texts, read_refs, peek_ones, read_withs, read_bang_elements, abandons as both_abandon, Rested, gave, BothRest, OneCall, Twins, fresh, more, EqualAgree, WaitsApart}
-use Rattle.model.specs.declared.ending.Ending.{Ending}
-use Rattle.model.specs.declared.ending.Ending.TheVariants.{Ended, Worn, Full}
 use Rattle.model.specs.declared.ending.Pending.TheVariants as pending
-use Rattle.model.specs.declared.answer.Peeked.TheVariants.{Byte}
 use Rattle.model.specs.declared.answer.Answer.{Answer}
 use Rattle.model.specs.declared.answer.Answer.TheVariants.{Text, Ref, Peek, With, Bang, Abandon}
 use Rattle.errors.specs.declared.Error.{Error}
-use Rattle.errors.specs.declared.Error.TheVariants.{FirstByte, Io}
+use Rattle.errors.specs.declared.Error.TheVariants.{Patience, Io, FirstByte, BufferFull}
 use Rattle.laws.proofs.Gathers.{on_byte-both, bytes_only, await-both}
 
 -- the same reader over a source that never waits
@@ -50,7 +47,7 @@ module _ {E : Type 0} where
   gathered_bytes g = gathered g.bytes (bytes_only g.left) g.ending
 
   -- a gathering that is not worn out does as if the source never waited
-  gather_bytes : (c : Cut E) (size : ℕ) (so_far : List ℕ) (p : ℕ) (is : List Item) (t : Tail) → ((gather c size so_far p is t).ending ≡ Worn → ⊥)
+  gather_bytes : (c : Cut E) (size : ℕ) (so_far : List ℕ) (p : ℕ) (is : List Item) (t : Tail) → ((gather c size so_far p is t).ending ≡ Err Patience → ⊥)
       → gathered_bytes (gather c size so_far p is t) ≡ gathered_bytes (gather c size so_far 0 (bytes_only is) t)
   gather_bytes c size so_far p [] end r = refl
   gather_bytes c size so_far p [] (fault f) r = refl
@@ -58,13 +55,13 @@ module _ {E : Type 0} where
   gather_bytes c size so_far (suc p) (wait ∷ is) t r = gather_bytes c size so_far p is t r
   gather_bytes c size so_far p (byte b ∷ is) t r =
       let kept = so_far ++ b ∷ [] in
-      let left : (bs : List ℕ) (e : Ending E) → gathered bs (byte b ∷ bytes_only is) e ≡ gathered bs (byte b ∷ bytes_only (bytes_only is)) e =
+      let left : (bs : List ℕ) (e : Result E Error) → gathered bs (byte b ∷ bytes_only is) e ≡ gathered bs (byte b ∷ bytes_only (bytes_only is)) e =
       λ bs e. ap (λ x. gathered bs (byte b ∷ x) e) (sym (bytes_only_twice is)) in
-      on_byte-both (λ g h. (g.ending ≡ Worn → ⊥) → gathered_bytes g ≡ gathered_bytes h) so_far b is (bytes_only is)
+      on_byte-both (λ g h. (g.ending ≡ Err Patience → ⊥) → gathered_bytes g ≡ gathered_bytes h) so_far b is (bytes_only is)
       (gather (next c) size kept p is t) (gather (next c) size kept 0 (bytes_only is) t) c (ltb (length so_far) size)
-      (λ _. left so_far (Ended (at_end c [])))
-      (λ _. ap (λ x. gathered kept x (Ended (at_end c []))) (sym (bytes_only_twice is)))
-      (λ _. left so_far Full)
+      (λ _. left so_far (Ok (at_end c [])))
+      (λ _. ap (λ x. gathered kept x (Ok (at_end c []))) (sym (bytes_only_twice is)))
+      (λ _. left so_far (Err BufferFull))
       (gather_bytes (next c) size kept p is t) r
 
 module _ {T : Type 0} where
@@ -76,7 +73,7 @@ module _ {T : Type 0} where
   Agrees o q = Rested o.answer → outcome_bytes o ≡ outcome_bytes q
 
   -- a piece that is gathered, whatever it is answered with
-  module _ {E : Type 0} (answer : List ℕ → Ending E → Answer T) (worn : (bs : List ℕ) → (told (answer bs Worn)).number ≡ 6) (s : State) (buf : List ℕ) where
+  module _ {E : Type 0} (answer : List ℕ → Result E Error → Answer T) (worn : (bs : List ℕ) → (told (answer bs (Err Patience))).number ≡ 6) (s : State) (buf : List ℕ) where
     abbrev pieced : State → Gathered E → Outcome (Answer T)
     pieced u g = outcome (answer g.bytes g.ending) (left_with u g.left (s.position + length g.bytes) None) (over g.bytes buf)
 
@@ -96,7 +93,7 @@ module _ {T : Type 0} where
     answer_agrees a is q o buf _ = ap (λ x. outcome a (left_with s x q o) buf) (sym (bytes_only_twice is))
 
     -- read_text, read_ref and read_with
-    reads_agree : {E A : Type 0} (f : A → Answer T) (r : Reading E A) (buf : List ℕ) (p : ℕ) → ((bs : List ℕ) → (told (f (r.answer bs Worn))).number ≡ 6)
+    reads_agree : {E A : Type 0} (f : A → Answer T) (r : Reading E A) (buf : List ℕ) (p : ℕ) → ((bs : List ℕ) → (told (f (r.answer bs (Err Patience)))).number ≡ 6)
         → Agrees (answering f (reads r s buf p)) (answering f (reads r (without_waits s) buf 0))
     reads_agree f r buf p worn = unless (admitted s.position (length buf) r.wanted s.opening r.least)
       where
@@ -114,7 +111,7 @@ module _ {T : Type 0} where
       peek_after_agrees p is =
           await-both (λ a b. Agrees (answering Peek (peek_after token s a)) (answering Peek (peek_after token (without_waits s) b))) p is s.stream.tail
           (λ _ _ _. refl) (λ _ _ _ _. refl) (λ _ _ _ r. absurd (r refl))
-          (λ b js _ _. answer_agrees (Peek (Ok (Byte b token))) (byte b ∷ js) s.position (Some b) [])
+          (λ b js _ _. answer_agrees (Peek (Ok (Some (b, token)))) (byte b ∷ js) s.position (Some b) [])
 
       first_agrees : (b : ℕ) (is : List Item) (p : ℕ) (y : Bool)
           → Agrees (answering Peek (cond y (peek_after token s (await p is s.stream.tail)) (peek_none token s FirstByte (byte b ∷ is))))
@@ -139,18 +136,18 @@ module _ {T : Type 0} where
           unless (Ok u) = answer_agrees (Abandon (Ok tt)) s.stream.items s.position None []
 
       module _ (buf : List ℕ) where
-        named_agrees : (o : Option BangType) (b : ℕ) (is : List Item) (p : ℕ)
-            → Agrees (answering Bang (bang_named token s buf o (byte b ∷ is) p)) (answering Bang (bang_named token (without_waits s) buf o (byte b ∷ bytes_only is) 0))
-        named_agrees None b is p =
-            answer_agrees (Bang (bang_named token s buf None (byte b ∷ is) p).answer) (byte b ∷ is) s.position None (over bang_prefix buf)
-        named_agrees (Some x) b is p =
-            piece_agrees (λ bs e. Bang (spending (length bs) (with_kind (kind_of x) (chain (finished e) (with_piece bs))))) (λ _. refl) s buf (scan_cut (bang x)) bang_prefix p (byte b ∷ is)
+        named_agrees : (r : Result BangType Error) (b : ℕ) (is : List Item) (p : ℕ)
+            → Agrees (answering Bang (bang_named token s buf r (byte b ∷ is) p)) (answering Bang (bang_named token (without_waits s) buf r (byte b ∷ bytes_only is) 0))
+        named_agrees (Err e) b is p =
+            answer_agrees (Bang (bang_named token s buf (Err e) (byte b ∷ is) p).answer) (byte b ∷ is) s.position None (over bang_prefix buf)
+        named_agrees (Ok x) b is p =
+            piece_agrees (λ bs e. Bang (spending (length bs) (with_kind (kind_of x) (chain e (with_piece bs))))) (λ _. refl) s buf (scan_cut (bang x)) bang_prefix p (byte b ∷ is)
 
         bang_after_agrees : (p : ℕ) (is : List Item)
             → Agrees (answering Bang (bang_after token s buf (await p is s.stream.tail))) (answering Bang (bang_after token (without_waits s) buf (await 0 (bytes_only is) s.stream.tail)))
         bang_after_agrees p is =
             await-both (λ a b. Agrees (answering Bang (bang_after token s buf a)) (answering Bang (bang_after token (without_waits s) buf b))) p is s.stream.tail
-            (λ _ _ _. refl) (λ _ _ _ _. refl) (λ _ _ _ r. absurd (r refl)) (λ b js q _. named_agrees (bang_type b) b js q)
+            (λ _ _ _. refl) (λ _ _ _ _. refl) (λ _ _ _ r. absurd (r refl)) (λ b js q _. named_agrees (bang_of (Some b)) b js q)
 
         bangs_agree : (p : ℕ) → Agrees (answering Bang (bangs token s buf p)) (answering Bang (bangs token (without_waits s) buf 0))
         bangs_agree p = unless (admitted s.position (length buf) pending.Bang s.opening 2)

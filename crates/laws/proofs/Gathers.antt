@@ -6,15 +6,14 @@ use Rattle.source.specs.Stream.{Item, byte, wait, Tail, end, fault, bytes_in}
 use Rattle.model.specs.Cut.{Cut, before, through, nowhere, at_end}
 use Rattle.model.specs.Gather.{Gathered, gathered, next, on_byte, gather}
 use Rattle.model.specs.Peek.{Awaited, awaited, await}
-use Rattle.model.specs.declared.ending.Ending.TheVariants.{Ended, Full}
-use Rattle.errors.specs.declared.Error.TheVariants.{Io, Patience}
+use Rattle.errors.specs.declared.Error.TheVariants.{Io, Patience, BufferFull}
 
 module _ {E : Type 0} where
   -- a byte comes first in two gatherings with one cut: it ends the piece, or does not fit, or the rests follow
   pub on_byte-both : (R : Gathered E → Gathered E → Type 0) (so_far : List ℕ) (b : ℕ) (is js : List Item) (g h : Gathered E) (c : Cut E) (fits : Bool)
-      → R (gathered so_far (byte b ∷ is) (Ended (at_end c []))) (gathered so_far (byte b ∷ js) (Ended (at_end c [])))
-      → R (gathered (so_far ++ b ∷ []) is (Ended (at_end c []))) (gathered (so_far ++ b ∷ []) js (Ended (at_end c [])))
-      → R (gathered so_far (byte b ∷ is) Full) (gathered so_far (byte b ∷ js) Full)
+      → R (gathered so_far (byte b ∷ is) (Ok (at_end c []))) (gathered so_far (byte b ∷ js) (Ok (at_end c [])))
+      → R (gathered (so_far ++ b ∷ []) is (Ok (at_end c []))) (gathered (so_far ++ b ∷ []) js (Ok (at_end c [])))
+      → R (gathered so_far (byte b ∷ is) (Err BufferFull)) (gathered so_far (byte b ∷ js) (Err BufferFull))
       → R g h → R (on_byte c fits so_far b is g) (on_byte c fits so_far b js h)
   on_byte-both R so_far b is js g h (before zero e) fits left kept full rest = left
   on_byte-both R so_far b is js g h (before (suc k) e) true left kept full rest = rest

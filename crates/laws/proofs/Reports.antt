@@ -1,5 +1,6 @@
 -- The report comes out whole over every history. Assumes nothing.
 use Rattle.std.proofs.Common.{◌≡◌, ℕ, zero, suc, ◌+◌, ◌-◌, ◌^◌, ◌≤◌, true, false, cond, eqb, ltb, leb, List, [], ◌∷◌, ◌++◌, length, take, drop, Some, None, Ok, Err, Option, Result, sym, refl, ap, ◌∙◌, subst, append_assoc, append-nil, arith, length-append}
+use Rattle.std.specs.Option.{ok_or}
 use Rattle.std.proofs.lemmas.List.{take_at}
 use Rattle.std.proofs.lemmas.Bool.{cond_both, eqb-true, ne_eqb}
 use Rattle.source.specs.Stream.{Item, byte, wait, Tail, end, fault, bytes_in, bytes_of}
@@ -16,30 +17,23 @@ use Rattle.parser.specs.declared.errors.SyntaxError.{SyntaxError}
 use Rattle.parser.specs.declared.errors.SyntaxError.TheVariants.{InvalidBangMarkup}
 use Rattle.utf8.specs.Utf8.{judged}
 use Rattle.utf8.specs.declared.Utf8Error.{Utf8Error}
-use Rattle.model.specs.Told.{told, text_told, ref_told, with_told, bang_told, refused_told}
+use Rattle.model.specs.Told.{told, with_told, bang_told, refused_told}
 use Rattle.model.specs.Cut.{Cut, at_end, verdict_cut, scan_cut}
 use Rattle.model.specs.Gather.{Gathered, gathered, next, gather}
-use Rattle.model.specs.Call.{State, left_with, Outcome, outcome, pends, chain, admitted, finished, checked, refusal, over, Reading, unless_early, reads, taking, text_kind, text_piece, text_reading, ref_piece, ref_reading, spending, with_piece, with_reading}
+use Rattle.model.specs.Call.{State, left_with, Outcome, outcome, pends, chain, admitted, checked, refusal, over, Reading, unless_early, reads, text_reading, ref_reading, spending, with_piece, with_reading}
 use Rattle.model.specs.Peek.{await, peek_none, peek_after, peek_from, peek_unless, peeks, abandons, abandon_unless}
 use Rattle.model.specs.Bang.{bang_prefix, with_kind, kind_of, bang_stuck, bang_named, bang_after, bang_from, bang_unless, bangs}
 use Rattle.model.specs.History.{Call, read_text, read_ref, peek_one, read_with, read_bang_element, abandon, Event, event, answering, unwritten, stays, lost_by, given, joined, lost, open_bytes, StandsFirst, total, told_taken, does, History, fresh, more, Whole, Made, ReportWhole, Continues}
-use Rattle.model.specs.declared.ending.Ending.{Ending}
-use Rattle.model.specs.declared.ending.Ending.TheVariants.{Ended, Fault, Worn, Full}
 use Rattle.model.specs.declared.ending.Pending.{Pending}
 use Rattle.model.specs.declared.ending.Pending.TheVariants as pending
-use Rattle.model.specs.declared.ending.TextEnd.{TextEnd}
-use Rattle.model.specs.declared.ending.TextEnd.TheVariants as text_end
-use Rattle.model.specs.declared.ending.RefEnd.{RefEnd}
-use Rattle.model.specs.declared.ending.RefEnd.TheVariants as ref_end
-use Rattle.model.specs.declared.answer.ReadRef.{ReadRef}
-use Rattle.model.specs.declared.answer.Told.{Told}
 use Rattle.model.specs.declared.answer.BangKind.{BangKind}
 use Rattle.model.specs.declared.answer.Refused.{Refused}
 use Rattle.model.specs.declared.answer.Refused.TheVariants as refused
 use Rattle.model.specs.declared.answer.Answer.{Answer}
 use Rattle.model.specs.declared.answer.Answer.TheVariants.{Text, Ref, Peek, With, Bang, Abandon}
 use Rattle.errors.specs.declared.Error.{Error}
-use Rattle.errors.specs.declared.Error.TheVariants.{Position, BufferTooLong, Opening, NotBang, BufferTooShort, Patience, Io, FirstByte, BufferFull, Syntax}
+use Rattle.errors.specs.declared.Error.TheVariants.{Position, BufferTooLong, Opening, NotBang, BufferTooShort, Patience, Io, FirstByte, Syntax}
+use Rattle.model.proofs.Counts.{counts, text-counts, ref-counts, scanned_counts}
 use Rattle.laws.proofs.Gathers.{on_byte-both, next_end, gather_keeps, gather_grows, await-both}
 
 -- what has yet to be given out: the pending `<`, and what the source has left
@@ -74,9 +68,6 @@ kept_on {u = u} {bs = bs} {cs = cs} k l = record {
 abbrev Admits : Result (Unit {0}) Error → Type 0
 Admits a = a ≡ Ok tt
 
-clash : {A : Type 0} (e : Error) → Admits (Err e) → A
-clash e h = let z : ◌≡◌ {A = ℕ} 0 1 = cc in absurd (omega arith)
-
 -- with nothing written, this is no refusal of read_bang_element after which the position stays
 abbrev Early : Error → Type 0
 Early e = stays (refused_told (refusal e 0 0)) ≡ false
@@ -94,82 +85,22 @@ module _ (P : Result (Unit {0}) Error → Type 0) (early : (e : Error) → Early
 admitted-either : (P : Result (Unit {0}) Error → Type 0) → ((e : Error) → Early e → P (Err e)) → (position size : ℕ) (w : Pending) (o : Option ℕ) (least : ℕ)
     → (Admits (pends w o) → P (Ok tt)) → P (admitted position size w o least)
 admitted-either P early position size w o least there =
-    cond_both (ltb position (2 ^ 63)) _ _ P
-    (λ _. cond_both (leb size 16777216) _ _ P
-    (λ _. pends-either (λ a. P (chain a (λ _. cond (leb least size) (Ok tt) (Err BufferTooShort)))) early w o
-    (λ h. cond_both (leb least size) _ _ P (λ _. there h) (λ _. early BufferTooShort refl)))
-    (λ _. early BufferTooLong refl))
-    (λ _. early Position refl)
+    cond_both (leb (2 ^ 63) position) _ _ P (λ _. early Position refl)
+    (λ _. cond_both (ltb 16777216 size) _ _ P (λ _. early BufferTooLong refl)
+    (λ _. pends-either (λ a. P (chain a (λ _. cond (ltb size least) (Err BufferTooShort) (Ok tt)))) early w o
+    (λ h. cond_both (ltb size least) _ _ P (λ _. early BufferTooShort refl) (λ _. there h))))
 
 nothing_pends : (o : Option ℕ) → Admits (pends pending.Nothing o) → o ≡ None
 nothing_pends None h = refl
-nothing_pends (Some b) h = clash Opening h
+nothing_pends (Some b) h = cc
 
 opening_pends : (o : Option ℕ) → Admits (pends pending.Opening o) → 60 ∷ [] ≡ open_bytes o
-opening_pends None h = clash Opening h
+opening_pends None h = cc
 opening_pends (Some b) h = refl
 
 bang-pends : (o : Option ℕ) → Admits (pends pending.Bang o) → o ≡ Some 33
-bang-pends None h = clash Opening h
-bang-pends (Some b) h = cond_both (eqb b 33) _ _ (λ x. Admits x → Some b ≡ Some 33) (λ e _. ap Some (eqb-true b 33 e)) (λ _. clash NotBang) h
-
--- how many bytes the answer to a piece says were written and taken
-
-abbrev counts : Told → ℕ × ℕ
-counts a = (a.written, a.taken)
-
-module _ {A B : Type 0} (answer : Result A Error → B) (counted : B → ℕ × ℕ) (n : ℕ × ℕ) (refused : (e : Error) → counted (answer (Err e)) ≡ n) where
-  checked-counts : (r : Result (Unit {0}) Utf8Error) (a : A) → counted (answer (Ok a)) ≡ n → counted (answer (checked r a)) ≡ n
-  checked-counts (Ok u) a h = h
-  checked-counts (Err e) a h = refused _
-
-  piece-counts : {E : Type 0} (piece : E → Result A Error) → ((e : E) → counted (answer (piece e)) ≡ n) → (e : Ending E) → counted (answer (chain (finished e) piece)) ≡ n
-  piece-counts piece h (Ended e) = h e
-  piece-counts piece h (Fault f) = refused (Io f)
-  piece-counts piece h Worn = refused Patience
-  piece-counts piece h Full = refused BufferFull
-
-module _ (bs : List ℕ) where
-  abbrev all_taken : ℕ × ℕ
-  all_taken = (length bs, length bs)
-
-  text-counts : (e : Ending TextEnd) → counts (text_told (text_reading.answer bs e)) ≡ all_taken
-  text-counts =
-      piece-counts (taking (length bs)) (λ r. counts (text_told r)) all_taken (λ _. refl) (text_piece bs)
-      (λ e. checked-counts (taking (length bs)) (λ r. counts (text_told r)) all_taken (λ _. refl) (judged bs) (text_kind e (length bs)) (kind e (length bs)))
-    where
-      kind : (e : TextEnd) (w : ℕ) → counts (text_told (Ok (text_kind e w))) ≡ (w, w)
-      kind text_end.Markup zero = refl
-      kind text_end.Markup (suc w) = refl
-      kind text_end.Ref zero = refl
-      kind text_end.Ref (suc w) = refl
-      kind text_end.Eof w = refl
-
-  ref-counts : (e : Ending RefEnd) → counts (ref_told (ref_reading.answer bs e)) ≡ all_taken
-  ref-counts = piece-counts (taking (length bs)) (λ r. counts (ref_told r)) all_taken (λ _. refl) (ref_piece bs) piece
-    where
-      whole : (a : ReadRef) → counts (ref_told (Ok a)) ≡ all_taken → counts (ref_told (taking (length bs) (checked (judged bs) a))) ≡ all_taken
-      whole = checked-counts (taking (length bs)) (λ r. counts (ref_told r)) all_taken (λ _. refl) (judged bs)
-
-      piece : (e : RefEnd) → counts (ref_told (taking (length bs) (ref_piece bs e))) ≡ all_taken
-      piece ref_end.Semicolon = whole _ refl
-      piece ref_end.Markup = whole _ refl
-      piece ref_end.Ref = whole _ refl
-      piece ref_end.Eof = whole _ refl
-      piece ref_end.NotRef = refl
-
-  -- the `<` was taken before
-  abbrev one_before : ℕ × ℕ
-  one_before = (length bs, length bs - 1)
-
-  scanned_counts : {B : Type 0} (answer : Result ℕ Error → B) (counted : B → ℕ × ℕ) → ((e : Error) → counted (answer (Err e)) ≡ one_before)
-      → counted (answer (Ok (length bs))) ≡ one_before
-      → (e : Ending (Result (Unit {0}) SyntaxError)) → counted (answer (chain (finished e) (with_piece bs))) ≡ one_before
-  scanned_counts answer counted refused whole = piece-counts answer counted one_before refused (with_piece bs) piece
-    where
-      piece : (r : Result (Unit {0}) SyntaxError) → counted (answer (with_piece bs r)) ≡ one_before
-      piece (Ok u) = checked-counts answer counted one_before refused (judged bs) (length bs) whole
-      piece (Err e) = refused (Syntax e)
+bang-pends None h = cc
+bang-pends (Some b) h = cond_both (eqb b 33) _ _ (λ x. Admits x → Some b ≡ Some 33) (λ e _. ap Some (eqb-true b 33 e)) (λ _ k. cc) h
 
 -- one call
 
@@ -209,7 +140,7 @@ module _ {T : Type 0} (s : State) where
 
   -- read_text, read_ref and read_with: k says how many of the bytes written are taken now
   reads_keeps : {E A : Type 0} (f : A → Answer T) (r : Reading E A) (buf : List ℕ) (p : ℕ) (k : ℕ → ℕ) → ((a : A) → unwritten (f a) ≡ []) → ((a : A) → lost_by (f a) ≡ 0)
-      → ((e : Error) → counts (told (f (r.early e))) ≡ (0, 0)) → ((bs : List ℕ) (e : Ending E) → counts (told (f (r.answer bs e))) ≡ (length bs, k (length bs)))
+      → ((e : Error) → counts (told (f (r.early e))) ≡ (0, 0)) → ((bs : List ℕ) (e : Result E Error) → counts (told (f (r.answer bs e))) ≡ (length bs, k (length bs)))
       → ((n : ℕ) → length r.prefix ≤ n → k n + length r.prefix ≡ n)
       → (Admits (pends r.wanted s.opening) → r.prefix ≡ open_bytes s.opening) → Faces s → Keeps s (answering f (reads r s buf p))
   reads_keeps f r buf p k u n early written behind front faced =
@@ -303,13 +234,13 @@ third so_far (wait ∷ is) n = n
 third so_far (byte b ∷ is) n = omega arith
 
 module _ (T : Type 0) (k : BangKind) where
-  abbrev bang_answer : List ℕ → Ending (Result (Unit {0}) SyntaxError) → Result (BangKind × ℕ) (Refused T)
-  bang_answer bs e = spending (length bs) (with_kind k (chain (finished e) (with_piece bs)))
+  abbrev bang_answer : List ℕ → Result (Result (Unit {0}) SyntaxError) Error → Result (BangKind × ℕ) (Refused T)
+  bang_answer bs e = spending (length bs) (with_kind k (chain e (with_piece bs)))
 
   abbrev Moves : Gathered (Result (Unit {0}) SyntaxError) → Type 0
   Moves g = stays (bang_told (bang_answer g.bytes g.ending)) ≡ false
 
-  ended_moves : (bs : List ℕ) (is : List Item) (r : Result (Unit {0}) SyntaxError) → MovedBy r → Moves (gathered bs is (Ended r))
+  ended_moves : (bs : List ℕ) (is : List Item) (r : Result (Unit {0}) SyntaxError) → MovedBy r → Moves (gathered bs is (Ok r))
   ended_moves bs is (Ok u) h = go (judged bs)
     where
       go : (r : Result (Unit {0}) Utf8Error) → stays (bang_told {T = T} (spending (length bs) (with_kind k (checked r (length bs))))) ≡ false
@@ -342,7 +273,7 @@ module _ {T : Type 0} (s : State) (token : T) (buf : List ℕ) (o : s.opening �
       wrote s buf a bang_prefix 1 is s.position refl (omega (arith, one_opened)) refl (omega (arith, ap {B = ℕ} (λ b. cond b 2 0) y)) h
 
   named_keeps : (o : Option BangType) (b : ℕ) (is : List Item) (p : ℕ) → 60 ∷ 33 ∷ b ∷ bytes_in is ≡ standing s
-      → Keeps s (answering Bang (bang_named token s buf o (byte b ∷ is) p))
+      → Keeps s (answering Bang (bang_named token s buf (ok_or o (Syntax InvalidBangMarkup)) (byte b ∷ is) p))
   named_keeps None b is p h = stuck_keeps (Syntax InvalidBangMarkup) (byte b ∷ is) refl h
   named_keeps (Some x) b is p h =
       let c = scan_cut (bang x) (b ∷ bytes_in is) in

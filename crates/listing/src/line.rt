@@ -1,5 +1,5 @@
-ghost use Rattle.std.specs.Prelude.{◌≡◌, Some};
-ghost use Rattle.listing.specs.Text.{kind_text, line_text};
+ghost use Rattle.std.specs.Prelude.{Some};
+ghost use Rattle.listing.specs.Text.{line_text};
 
 use piece::Kind;
 use std::fmt;
@@ -15,31 +15,13 @@ pub enum Line {
     Fault(u64, u8),
 }
 
-fn kind_name(kind: Kind) -> &'static str
-    ensures { result.now ≡ kind_text kind }
-{
-    match kind {
-        Kind::Text => "text",
-        Kind::Ref => "ref",
-        Kind::Loose => "loose",
-        Kind::Tag => "tag",
-        Kind::Pi => "pi",
-        Kind::Comment => "comment",
-        Kind::CData => "cdata",
-        Kind::DocType => "doctype",
-    }
-}
-
 // Three fields, with tabs between them.
 impl fmt::Display for Line {
     ghost output = { λ l. Some (line_text l) };
 
     fn fmt<W: fmt::Write>(&self, f: &mut fmt::Formatter<W>) -> fmt::Result {
         match *self {
-            Line::Piece(kind, position, written) => {
-                let name = kind_name(kind);
-                write!(f, "{name}\t{position}\t{written}")
-            }
+            Line::Piece(kind, position, written) => write!(f, "{kind}\t{position}\t{written}"),
             Line::End(position) => write!(f, "end\t{position}\t0"),
             Line::Fault(position, number) => write!(f, "fault\t{position}\t{number}"),
         }

@@ -1,5 +1,4 @@
 ghost use Rattle.std.specs.Prelude.{◌≡◌, IfOk};
-ghost use Rattle.reader.specs.State.{state_of};
 ghost use Rattle.listing.specs.Listed.{line, closing, listed, report_listed};
 
 use super::line::Line;
@@ -24,10 +23,7 @@ fn line_of(before: u64, answer: Result<Option<Piece>, Refusal>) -> Line
 fn closes(answer: Result<Option<Piece>, Refusal>) -> bool
     ensures { result ≡ closing answer }
 {
-    match answer {
-        Ok(Some(_)) => false,
-        Ok(None) | Err(_) => true,
-    }
+    matches!(answer, Ok(None) | Err(_))
 }
 
 // The lines of the next pieces, `most` at the most, up to and with the closing line.
@@ -38,10 +34,10 @@ pub fn list_pieces<S: Source>(
     patience: u32,
     most: usize,
 ) -> Result<Vec<Line>, AllocError>
-    ensures { IfOk result (λ v. v.items ≡ listed most (state_of S.Source.stream reader.old) buf.old patience) }
+    ensures { IfOk result (λ v. v.items ≡ listed most reader.old buf.old patience) }
 {
     let mut lines = Vec::new(heap);
-    for i in 0..most {
+    for _ in 0..most {
         let before = reader.position();
         let answer = next_piece(reader, buf, patience);
         lines.push(line_of(before, answer))?;
@@ -52,7 +48,8 @@ pub fn list_pieces<S: Source>(
     Ok(lines)
 }
 
-// The lines of a report of which no more than `quota` bytes are read, into a buffer of `size` bytes, `width` at a time.
+// The lines of a report of which no more than `quota` bytes are read, into a buffer of `size` bytes, `width` at a time. The numbers
+// are parameters: with list_report's written out here, the proof's search outgrew 4 GiB.
 fn list_within(
     heap: Global,
     report: &[u8],

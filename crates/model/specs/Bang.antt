@@ -1,5 +1,5 @@
 -- What read_bang_element does.
-use Rattle.std.specs.Prelude.{ℕ, ◌+◌, List, [], ◌∷◌, length, drop, Some, None, Ok, Err, Option, Result}
+use Rattle.std.specs.Prelude.{ℕ, ◌+◌, List, [], ◌∷◌, length, drop, Some, None, Ok, Err, Option, Result, ok_or, option_and_then}
 use Rattle.source.specs.Stream.{Item, bytes_in}
 use Rattle.bang.specs.Bang.{bang, bang_type}
 use Rattle.bang.specs.declared.bang.BangType.{BangType}
@@ -8,7 +8,7 @@ use Rattle.parser.specs.declared.errors.SyntaxError.{SyntaxError}
 use Rattle.parser.specs.declared.errors.SyntaxError.TheVariants.{InvalidBangMarkup}
 use Rattle.model.specs.Cut.{scan_cut}
 use Rattle.model.specs.Gather.{Gathered, gather}
-use Rattle.model.specs.Call.{State, left_with, Outcome, outcome, admitted, finished, chain, refusal, over, spending, with_piece}
+use Rattle.model.specs.Call.{State, left_with, Outcome, outcome, admitted, chain, refusal, over, spending, with_piece}
 use Rattle.model.specs.Peek.{Awaited, await}
 use Rattle.model.specs.declared.ending.Pending.TheVariants as pending
 use Rattle.model.specs.declared.answer.BangKind.{BangKind}
@@ -22,6 +22,10 @@ abbrev pub kind_of : BangType → BangKind
 kind_of (scanner.CData s) = kind.CData
 kind_of (scanner.Comment s) = kind.Comment
 kind_of (scanner.DocType s) = kind.DocType
+
+-- what `<!` and the byte behind it begin
+abbrev pub bang_of : Option ℕ → Result BangType Error
+bang_of first = ok_or (option_and_then bang_type first) (Syntax InvalidBangMarkup)
 
 -- `<!`, and its `<` alone
 abbrev pub bang_prefix : List ℕ
@@ -41,21 +45,16 @@ module _ {T : Type 0} (token : T) (s : State) (buf : List ℕ) where
 
   abbrev pub bang_piece : BangKind → Gathered (Result (Unit {0}) SyntaxError) → Outcome (Result (BangKind × ℕ) (Refused T))
   bang_piece k g =
-      outcome (spending (length g.bytes) (with_kind k (chain (finished g.ending) (with_piece g.bytes))))
+      outcome (spending (length g.bytes) (with_kind k (chain g.ending (with_piece g.bytes))))
       (left_with s g.left (s.position + length g.bytes) None) (over g.bytes buf)
 
   -- the byte behind `<!` names the kind; it is not taken yet
-  abbrev pub bang_named : Option BangType → List Item → ℕ → Outcome (Result (BangKind × ℕ) (Refused T))
-  bang_named None is p = bang_stuck bang_prefix 1 (Syntax InvalidBangMarkup) is
-  bang_named (Some b) is p = bang_piece (kind_of b) (gather (scan_cut (bang b) (bytes_in is)) (length buf) bang_prefix p is s.stream.tail)
-
-  abbrev pub bang_behind : Result (Option ℕ) Error → List Item → ℕ → Outcome (Result (BangKind × ℕ) (Refused T))
-  bang_behind (Ok (Some b)) is p = bang_named (bang_type b) is p
-  bang_behind (Ok None) is p = bang_stuck bang_prefix 1 (Syntax InvalidBangMarkup) is
-  bang_behind (Err e) is p = bang_stuck bang_prefix 1 e is
+  abbrev pub bang_named : Result BangType Error → List Item → ℕ → Outcome (Result (BangKind × ℕ) (Refused T))
+  bang_named (Ok b) is p = bang_piece (kind_of b) (gather (scan_cut (bang b) (bytes_in is)) (length buf) bang_prefix p is s.stream.tail)
+  bang_named (Err e) is p = bang_stuck bang_prefix 1 e is
 
   abbrev pub bang_after : Awaited → Outcome (Result (BangKind × ℕ) (Refused T))
-  bang_after a = bang_behind a.first a.left a.patience
+  bang_after a = bang_named (chain a.first bang_of) a.left a.patience
 
   -- the byte peeked stands first in every reader that calls lead to; the other two cases make the definition total
   abbrev pub bang_first : Result (Option ℕ) Error → List Item → ℕ → Outcome (Result (BangKind × ℕ) (Refused T))

@@ -1,5 +1,5 @@
 -- What a call does: its answer, and the stream, the position, the opening and the buffer after it.
-use Rattle.std.specs.Prelude.{ℕ, zero, suc, ◌+◌, ◌-◌, ◌^◌, cond, List, [], ◌∷◌, ◌++◌, length, drop, Some, None, Ok, Err, Option, Result, ◌==◌, nat_le, nat_lt}
+use Rattle.std.specs.Prelude.{ℕ, zero, suc, ◌+◌, ◌-◌, ◌^◌, if◌then◌else◌, List, [], ◌∷◌, ◌++◌, length, drop, Some, None, Ok, Err, Option, Result, ◌==◌, nat_le, nat_lt}
 use Rattle.source.specs.Stream.{Item, Stream, bytes_of}
 use Rattle.parser.specs.Scan.{Meaning}
 use Rattle.parser.specs.declared.errors.SyntaxError.{SyntaxError}
@@ -7,8 +7,6 @@ use Rattle.utf8.specs.Utf8.{judged}
 use Rattle.utf8.specs.declared.Utf8Error.{Utf8Error}
 use Rattle.model.specs.Cut.{Cut, text_cut, ref_cut, scan_cut}
 use Rattle.model.specs.Gather.{Gathered, gather}
-use Rattle.model.specs.declared.ending.Ending.{Ending}
-use Rattle.model.specs.declared.ending.Ending.TheVariants.{Ended, Fault, Worn, Full}
 use Rattle.model.specs.declared.ending.Pending.{Pending}
 use Rattle.model.specs.declared.ending.Pending.TheVariants as pending
 use Rattle.model.specs.declared.ending.TextEnd.{TextEnd}
@@ -23,7 +21,7 @@ use Rattle.model.specs.declared.answer.Refusal.{Refusal}
 use Rattle.model.specs.declared.answer.Refused.{Refused}
 use Rattle.model.specs.declared.answer.Refused.TheVariants.{Kept, Spent}
 use Rattle.errors.specs.declared.Error.{Error}
-use Rattle.errors.specs.declared.Error.TheVariants.{Position, BufferTooLong, Opening, NotBang, BufferTooShort, Patience, Io, FirstByte, BufferFull, Syntax, Utf8}
+use Rattle.errors.specs.declared.Error.TheVariants.{Position, BufferTooLong, Opening, NotBang, BufferTooShort, FirstByte, Syntax, Utf8}
 
 -- a reader: what its source means, its position, and the byte peeked behind a pending opening
 pub record State : Type 0 where
@@ -54,7 +52,7 @@ pends pending.Nothing (Some b) = Err Opening
 pends pending.Opening None = Err Opening
 pends pending.Opening (Some b) = Ok tt
 pends pending.Bang None = Err Opening
-pends pending.Bang (Some b) = cond (b == 33) (Ok tt) (Err NotBang)
+pends pending.Bang (Some b) = if b == 33 then Ok tt else Err NotBang
 
 abbrev pub chain : {A B : Type 0} → Result A Error → (A → Result B Error) → Result B Error
 chain (Ok a) f = f a
@@ -63,23 +61,18 @@ chain (Err e) f = Err e
 -- the questions before any look: the position, the buffer's length, what is pending, the least buffer
 abbrev pub admitted : ℕ → ℕ → Pending → Option ℕ → ℕ → Result (Unit {0}) Error
 admitted position size wanted opening least =
-    cond (nat_lt position (2 ^ 63))
-    (cond (nat_le size 16777216)
-    (chain (pends wanted opening) (λ _. cond (nat_le least size) (Ok tt) (Err BufferTooShort)))
-    (Err BufferTooLong))
-    (Err Position)
-
--- what ended a whole piece, or why there is none
-abbrev pub finished : {E : Type 0} → Ending E → Result E Error
-finished (Ended e) = Ok e
-finished (Fault f) = Err (Io f)
-finished Worn = Err Patience
-finished Full = Err BufferFull
+    if nat_le (2 ^ 63) position then Err Position
+    else if nat_lt 16777216 size then Err BufferTooLong
+    else chain (pends wanted opening) (λ _. if nat_lt size least then Err BufferTooShort else Ok tt)
 
 -- the answer of a whole piece, if it is UTF-8
 abbrev pub checked : {A : Type 0} → Result (Unit {0}) Utf8Error → A → Result A Error
 checked (Ok u) a = Ok a
 checked (Err e) a = Err (Utf8 e)
+
+-- the same by what ended the piece and by its length
+abbrev pub whole : {E A : Type 0} → (E → ℕ → Result A Error) → List ℕ → E → Result A Error
+whole answer bs e = chain (answer e (length bs)) (checked (judged bs))
 
 abbrev pub refusal : Error → ℕ → ℕ → Refusal
 refusal e w t = record { error = e; written = w; taken = t }
@@ -100,7 +93,7 @@ pub record Reading (E A : Type 0) : Type 0 where
   pub least : ℕ
   -- its answer to a refusal that touches nothing, and to a gathering
   pub early : Error → A
-  pub answer : List ℕ → Ending E → A
+  pub answer : List ℕ → Result E Error → A
 
 module _ {E A : Type 0} (r : Reading E A) (s : State) (buf : List ℕ) (patience : ℕ) where
   abbrev pub read_piece : Gathered E → Outcome A
@@ -119,6 +112,16 @@ abbrev pub taking : {A : Type 0} → ℕ → Result A Error → Result A Refusal
 taking w (Ok a) = Ok a
 taking w (Err e) = Err (refusal e w w)
 
+abbrev pub taking_reading : {E A : Type 0} → (List ℕ → Cut E) → ℕ → (List ℕ → E → Result A Error) → Reading E (Result A Refusal)
+taking_reading cut least piece = record {
+  cut = cut;
+  prefix = [];
+  wanted = pending.Nothing;
+  least = least;
+  early = λ e. Err (refusal e 0 0);
+  answer = λ bs e. taking (length bs) (chain e (piece bs));
+}
+
 abbrev pub text_kind : TextEnd → ℕ → ReadText
 text_kind text_end.Markup zero = text.Markup
 text_kind text_end.Markup (suc w) = text.UpToMarkup (suc w)
@@ -126,44 +129,39 @@ text_kind text_end.Ref zero = text.Ref
 text_kind text_end.Ref (suc w) = text.UpToRef (suc w)
 text_kind text_end.Eof w = text.UpToEof w
 
+abbrev pub text_answer : TextEnd → ℕ → Result ReadText Error
+text_answer e w = Ok (text_kind e w)
+
 abbrev pub text_piece : List ℕ → TextEnd → Result ReadText Error
-text_piece bs e = checked (judged bs) (text_kind e (length bs))
+text_piece = whole text_answer
 
 abbrev pub text_reading : Reading TextEnd (Result ReadText Refusal)
-text_reading = record {
-  cut = text_cut;
-  prefix = [];
-  wanted = pending.Nothing;
-  least = 0;
-  early = λ e. Err (refusal e 0 0);
-  answer = λ bs e. taking (length bs) (chain (finished e) (text_piece bs));
-}
+text_reading = taking_reading text_cut 0 text_piece
+
+abbrev pub ref_answer : RefEnd → ℕ → Result ReadRef Error
+ref_answer ref_end.Semicolon w = Ok (ref.Ref w)
+ref_answer ref_end.Markup w = Ok (ref.UpToMarkup w)
+ref_answer ref_end.Ref w = Ok (ref.UpToRef w)
+ref_answer ref_end.Eof w = Ok (ref.UpToEof w)
+ref_answer ref_end.NotRef w = Err FirstByte
 
 abbrev pub ref_piece : List ℕ → RefEnd → Result ReadRef Error
-ref_piece bs ref_end.Semicolon = checked (judged bs) (ref.Ref (length bs))
-ref_piece bs ref_end.Markup = checked (judged bs) (ref.UpToMarkup (length bs))
-ref_piece bs ref_end.Ref = checked (judged bs) (ref.UpToRef (length bs))
-ref_piece bs ref_end.Eof = checked (judged bs) (ref.UpToEof (length bs))
-ref_piece bs ref_end.NotRef = Err FirstByte
+ref_piece = whole ref_answer
 
 abbrev pub ref_reading : Reading RefEnd (Result ReadRef Refusal)
-ref_reading = record {
-  cut = ref_cut;
-  prefix = [];
-  wanted = pending.Nothing;
-  least = 1;
-  early = λ e. Err (refusal e 0 0);
-  answer = λ bs e. taking (length bs) (chain (finished e) (ref_piece bs));
-}
+ref_reading = taking_reading ref_cut 1 ref_piece
 
 -- read_with spends its token, and its `<` was taken before
 abbrev pub spending : {A T : Type 0} → ℕ → Result A Error → Result A (Refused T)
 spending w (Ok a) = Ok a
 spending w (Err e) = Err (Spent (refusal e w (w - 1)))
 
+abbrev pub with_answer : Result (Unit {0}) SyntaxError → ℕ → Result ℕ Error
+with_answer (Ok u) w = Ok w
+with_answer (Err e) w = Err (Syntax e)
+
 abbrev pub with_piece : List ℕ → Result (Unit {0}) SyntaxError → Result ℕ Error
-with_piece bs (Ok u) = checked (judged bs) (length bs)
-with_piece bs (Err e) = Err (Syntax e)
+with_piece = whole with_answer
 
 -- `<` is 60
 abbrev pub with_reading : {T : Type 0} → T → Meaning → Reading (Result (Unit {0}) SyntaxError) (Result ℕ (Refused T))
@@ -173,5 +171,5 @@ with_reading token m = record {
   wanted = pending.Opening;
   least = 1;
   early = λ e. Err (Kept e token);
-  answer = λ bs e. spending (length bs) (chain (finished e) (with_piece bs));
+  answer = λ bs e. spending (length bs) (chain e (with_piece bs));
 }

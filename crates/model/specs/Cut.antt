@@ -1,5 +1,5 @@
 -- Where a piece ends in a run of bytes.
-use Rattle.std.specs.Prelude.{ℕ, zero, suc, Bool, true, false, cond, List, [], ◌∷◌, Ok, Err, Result, ◌==◌}
+use Rattle.std.specs.Prelude.{ℕ, zero, suc, Bool, true, false, if◌then◌else◌, List, [], ◌∷◌, Ok, Err, Result, ◌==◌}
 use Rattle.parser.specs.Scan.{Verdict, stop, unclosed, Meaning}
 use Rattle.parser.specs.declared.errors.SyntaxError.{SyntaxError}
 use Rattle.model.specs.declared.ending.TextEnd.{TextEnd}
@@ -32,18 +32,20 @@ at_end (nowhere due) content = due content
 -- text ends before the first `<` (60) or `&` (38)
 abbrev pub text_cut : List ℕ → Cut TextEnd
 text_cut [] = nowhere (λ _. text.Eof)
-text_cut (b ∷ bs) = cond (b == 60) (before 0 text.Markup) (cond (b == 38) (before 0 text.Ref) (behind_one (text_cut bs)))
+text_cut (b ∷ bs) = if b == 60 then before 0 text.Markup else if b == 38 then before 0 text.Ref else behind_one (text_cut bs)
 
 -- behind its `&`, a reference ends with the first `;` (59), or before the first `&` or `<` if that comes earlier
 abbrev pub name_cut : List ℕ → Cut RefEnd
 name_cut [] = nowhere (λ _. ref.Eof)
 name_cut (b ∷ bs) =
-    cond (b == 59) (through 0 ref.Semicolon)
-    (cond (b == 38) (before 0 ref.Ref) (cond (b == 60) (before 0 ref.Markup) (behind_one (name_cut bs))))
+    if b == 59 then through 0 ref.Semicolon
+    else if b == 38 then before 0 ref.Ref
+    else if b == 60 then before 0 ref.Markup
+    else behind_one (name_cut bs)
 
 abbrev pub ref_cut : List ℕ → Cut RefEnd
 ref_cut [] = nowhere (λ _. ref.Eof)
-ref_cut (b ∷ bs) = cond (b == 38) (behind_one (name_cut bs)) (before 0 ref.NotRef)
+ref_cut (b ∷ bs) = if b == 38 then behind_one (name_cut bs) else before 0 ref.NotRef
 
 -- the same once its `&` came, or from its start
 abbrev pub ref_from : Bool → List ℕ → Cut RefEnd

@@ -1,5 +1,5 @@
 -- Calls one after another: a history is the calls made since the making, with their answers, and the reader that they led to.
-use Rattle.std.specs.Prelude.{◌≡◌, ℕ, ◌+◌, ◌-◌, Bool, cond, ◌&&◌, ◌||◌, List, [], ◌∷◌, ◌++◌, length, take, drop, Some, None, Ok, Err, Option, ◌==◌}
+use Rattle.std.specs.Prelude.{◌≡◌, ℕ, ◌+◌, ◌-◌, Bool, if◌then◌else◌, ◌&&◌, ◌||◌, List, [], ◌∷◌, ◌++◌, length, take, drop, Some, None, Ok, Err, Option, ◌==◌}
 use Rattle.source.specs.Stream.{Item, byte, bytes_of}
 use Rattle.parser.specs.Scan.{Meaning}
 use Rattle.model.specs.Told.{told}
@@ -7,7 +7,6 @@ use Rattle.model.specs.Call.{State, Outcome, outcome, reads, text_reading, ref_r
 use Rattle.model.specs.Peek.{peeks, abandons}
 use Rattle.model.specs.Bang.{bangs}
 use Rattle.model.specs.declared.answer.Told.{Told}
-use Rattle.model.specs.declared.answer.Peeked.TheVariants.{Byte, Nothing}
 use Rattle.model.specs.declared.answer.Answer.{Answer}
 use Rattle.model.specs.declared.answer.Answer.TheVariants.{Text, Ref, Peek, With, Bang, Abandon}
 
@@ -36,8 +35,8 @@ answering f o = outcome (f o.answer) o.after o.buffer
 abbrev pub unwritten : {T : Type 0} → Answer T → List ℕ
 unwritten (Text r) = []
 unwritten (Ref r) = []
-unwritten (Peek (Ok (Byte b token))) = []
-unwritten (Peek (Ok Nothing)) = 60 ∷ []
+unwritten (Peek (Ok (Some (b, token)))) = []
+unwritten (Peek (Ok None)) = 60 ∷ []
 unwritten (Peek (Err r)) = take r.taken (60 ∷ [])
 unwritten (With r) = []
 unwritten (Bang r) = []
@@ -52,11 +51,11 @@ stays a = a.number == 9 || ((a.number == 6 || a.number == 7) && a.written == 2)
 abbrev pub lost_by : {T : Type 0} → Answer T → ℕ
 lost_by (Text r) = 0
 lost_by (Ref r) = 0
-lost_by (Peek (Ok (Byte b token))) = 0
-lost_by (Peek (Ok Nothing)) = 1
+lost_by (Peek (Ok (Some (b, token)))) = 0
+lost_by (Peek (Ok None)) = 1
 lost_by (Peek (Err r)) = r.taken
 lost_by (With r) = 0
-lost_by (Bang r) = cond (stays (told (Bang r))) 2 0
+lost_by (Bang r) = if stays (told (Bang r)) then 2 else 0
 lost_by (Abandon (Ok u)) = 1
 lost_by (Abandon (Err r)) = 0
 

@@ -1,10 +1,8 @@
 -- What peek_one and abandon do.
-use Rattle.std.specs.Prelude.{ℕ, zero, suc, cond, List, [], ◌∷◌, drop, Some, None, Ok, Err, Option, Result, ◌==◌}
+use Rattle.std.specs.Prelude.{ℕ, zero, suc, if◌then◌else◌, List, [], ◌∷◌, drop, Some, None, Ok, Err, Option, Result, ◌==◌}
 use Rattle.source.specs.Stream.{Item, byte, wait, Tail, end, fault}
 use Rattle.model.specs.Call.{State, state, left_with, Outcome, outcome, refusal, admitted, pends}
 use Rattle.model.specs.declared.ending.Pending.TheVariants as pending
-use Rattle.model.specs.declared.answer.Peeked.{Peeked}
-use Rattle.model.specs.declared.answer.Peeked.TheVariants.{Byte, Nothing}
 use Rattle.model.specs.declared.answer.Refusal.{Refusal}
 use Rattle.model.specs.declared.answer.Refused.{Refused}
 use Rattle.model.specs.declared.answer.Refused.TheVariants.{Kept}
@@ -29,33 +27,33 @@ await p (byte b ∷ is) t = awaited (Ok (Some b)) (byte b ∷ is) p
 
 module _ {T : Type 0} (token : T) (s : State) where
   -- behind the `<`
-  abbrev pub peek_behind : Result (Option ℕ) Error → List Item → Outcome (Result (Peeked T) Refusal)
-  peek_behind (Ok (Some b)) is = outcome (Ok (Byte b token)) (left_with s is s.position (Some b)) []
-  peek_behind (Ok None) is = outcome (Ok Nothing) (left_with s is s.position None) []
+  abbrev pub peek_behind : Result (Option ℕ) Error → List Item → Outcome (Result (Option (ℕ × T)) Refusal)
+  peek_behind (Ok (Some b)) is = outcome (Ok (Some (b, token))) (left_with s is s.position (Some b)) []
+  peek_behind (Ok None) is = outcome (Ok None) (left_with s is s.position None) []
   peek_behind (Err e) is = outcome (Err (refusal e 0 1)) (left_with s is s.position None) []
 
-  abbrev pub peek_after : Awaited → Outcome (Result (Peeked T) Refusal)
+  abbrev pub peek_after : Awaited → Outcome (Result (Option (ℕ × T)) Refusal)
   peek_after a = peek_behind a.first a.left
 
   -- nothing was taken
-  abbrev pub peek_none : Error → List Item → Outcome (Result (Peeked T) Refusal)
+  abbrev pub peek_none : Error → List Item → Outcome (Result (Option (ℕ × T)) Refusal)
   peek_none e is = outcome (Err (refusal e 0 0)) (left_with s is s.position s.opening) []
 
   -- `<` is 60
-  abbrev pub peek_first : Result (Option ℕ) Error → List Item → ℕ → Outcome (Result (Peeked T) Refusal)
-  peek_first (Ok (Some b)) is p = cond (b == 60) (peek_after (await p (drop 1 is) s.stream.tail)) (peek_none FirstByte is)
+  abbrev pub peek_first : Result (Option ℕ) Error → List Item → ℕ → Outcome (Result (Option (ℕ × T)) Refusal)
+  peek_first (Ok (Some b)) is p = if b == 60 then peek_after (await p (drop 1 is) s.stream.tail) else peek_none FirstByte is
   peek_first (Ok None) is p = peek_none FirstByte is
   peek_first (Err e) is p = peek_none e is
 
-  abbrev pub peek_from : Awaited → Outcome (Result (Peeked T) Refusal)
+  abbrev pub peek_from : Awaited → Outcome (Result (Option (ℕ × T)) Refusal)
   peek_from a = peek_first a.first a.left a.patience
 
-  abbrev pub peek_unless : Result (Unit {0}) Error → ℕ → Outcome (Result (Peeked T) Refusal)
+  abbrev pub peek_unless : Result (Unit {0}) Error → ℕ → Outcome (Result (Option (ℕ × T)) Refusal)
   peek_unless (Err e) p = peek_none e s.stream.items
   peek_unless (Ok u) p = peek_from (await p s.stream.items s.stream.tail)
 
   -- it has no buffer
-  abbrev pub peeks : ℕ → Outcome (Result (Peeked T) Refusal)
+  abbrev pub peeks : ℕ → Outcome (Result (Option (ℕ × T)) Refusal)
   peeks p = peek_unless (admitted s.position 0 pending.Nothing s.opening 0) p
 
   abbrev pub abandon_unless : Result (Unit {0}) Error → Outcome (Result (Unit {0}) (Refused T))

@@ -1,11 +1,10 @@
 -- What each answer tells, case by case: its number (0 where it is no refusal), the bytes written and the bytes taken.
-use Rattle.std.specs.Prelude.{ℕ, ◌-◌, Ok, Err, Result}
+use Rattle.std.specs.Prelude.{ℕ, ◌-◌, Ok, Err, Option, Result}
 use Rattle.errors.specs.Numbers.{number}
 use Rattle.model.specs.declared.answer.ReadText.{ReadText}
 use Rattle.model.specs.declared.answer.ReadText.TheVariants as text
 use Rattle.model.specs.declared.answer.ReadRef.{ReadRef}
 use Rattle.model.specs.declared.answer.ReadRef.TheVariants as ref
-use Rattle.model.specs.declared.answer.Peeked.{Peeked}
 use Rattle.model.specs.declared.answer.Refusal.{Refusal}
 use Rattle.model.specs.declared.answer.Refused.{Refused}
 use Rattle.model.specs.declared.answer.Refused.TheVariants.{Kept, Spent}
@@ -39,7 +38,7 @@ ref_told (Err r) = refused_told r
 
 module _ {T : Type 0} where
   -- peek_one takes the `<`, with a byte behind it or not
-  abbrev pub peek_told : Result (Peeked T) Refusal → Told
+  abbrev pub peek_told : Result (Option (ℕ × T)) Refusal → Told
   peek_told (Ok p) = accepted 0 1
   peek_told (Err r) = refused_told r
 

@@ -1,18 +1,3 @@
-use source::Fault;
-
-// How the gathering of a piece came to its end; E says what ended a piece that is whole.
-#[derive(Clone, Copy)]
-pub enum Ending<E> {
-    // the piece is whole
-    Ended(E),
-    // the source failed
-    Fault(Fault),
-    // there was one wait more than the call's patience
-    Worn,
-    // the next byte of the piece does not fit the buffer
-    Full,
-}
-
 // What ends a text.
 #[derive(Clone, Copy)]
 pub enum TextEnd {

@@ -5,6 +5,6 @@ mod answer;
 mod ending;
 mod told;
 
-pub use answer::{Answer, BangKind, Peeked, ReadRef, ReadText, Refusal, Refused, Told};
-pub use ending::{Ending, Pending, RefEnd, TextEnd};
+pub use answer::{Answer, BangKind, ReadRef, ReadText, Refusal, Refused, Told};
+pub use ending::{Pending, RefEnd, TextEnd};
 pub use errors::Error;

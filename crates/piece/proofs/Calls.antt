@@ -2,7 +2,7 @@
 use Rattle.std.proofs.Common.{◌≡◌, ℕ, zero, suc, ◌+◌, ◌≤◌, Bool, true, false, cond, eqb, List, [], ◌∷◌, ◌++◌, length, drop, Some, None, Ok, Err, Option, Result, sym, refl, ap, ◌∙◌, subst, append_assoc, append-nil, arith}
 use Rattle.source.specs.Stream.{Item, bytes_in, bytes_of}
 use Rattle.parser.specs.Scan.{Meaning}
-use Rattle.bang.specs.Bang.{bang, bang_type}
+use Rattle.bang.specs.Bang.{bang}
 use Rattle.parser.specs.Element.{element}
 use Rattle.parser.specs.Pi.{pi, after_question}
 use Rattle.bang.specs.declared.bang.BangType.{BangType}
@@ -12,9 +12,9 @@ use Rattle.utf8.specs.Utf8.{judged}
 use Rattle.utf8.specs.declared.Utf8Error.{Utf8Error}
 use Rattle.model.specs.Cut.{scan_cut}
 use Rattle.model.specs.Gather.{gather}
-use Rattle.model.specs.Call.{State, Outcome, outcome, admitted, finished, chain, checked, with_piece, spending, reads, unless_early, text_reading, ref_reading, with_reading}
+use Rattle.model.specs.Call.{State, Outcome, outcome, admitted, chain, checked, with_piece, spending, reads, unless_early, text_reading, ref_reading, with_reading}
 use Rattle.model.specs.Peek.{await, peeks}
-use Rattle.model.specs.Bang.{kind_of, with_kind, bang_prefix, bangs, bang_unless, bang_first, bang_behind, bang_named}
+use Rattle.model.specs.Bang.{kind_of, with_kind, bang_prefix, bangs, bang_unless, bang_of, bang_first, bang_named}
 use Rattle.model.specs.History.{Event, Call, event, answering, read_text, read_ref, peek_one, read_with, read_bang_element, does, History, fresh, more}
 use Rattle.model.specs.Told.{told}
 use Rattle.model.specs.declared.answer.Answer.TheVariants as answer
@@ -22,14 +22,10 @@ use Rattle.model.specs.declared.answer.ReadText.{ReadText}
 use Rattle.model.specs.declared.answer.ReadText.TheVariants as text
 use Rattle.model.specs.declared.answer.ReadRef.{ReadRef}
 use Rattle.model.specs.declared.answer.ReadRef.TheVariants as ref
-use Rattle.model.specs.declared.answer.Peeked.{Peeked}
-use Rattle.model.specs.declared.answer.Peeked.TheVariants.{Byte, Nothing}
 use Rattle.model.specs.declared.answer.BangKind.{BangKind}
 use Rattle.model.specs.declared.answer.Refusal.{Refusal}
 use Rattle.model.specs.declared.answer.Refused.{Refused}
 use Rattle.model.specs.declared.answer.Refused.TheVariants.{Kept, Spent}
-use Rattle.model.specs.declared.ending.Ending.{Ending}
-use Rattle.model.specs.declared.ending.Ending.TheVariants.{Ended, Fault, Worn, Full}
 use Rattle.model.specs.declared.ending.Pending.TheVariants as pending
 use Rattle.errors.specs.declared.Error.{Error}
 use Rattle.laws.proofs.Gathers.{gather_grows}
@@ -66,11 +62,9 @@ module _ (bs : List ℕ) (some : 1 ≤ length bs) where
       go (Ok v) = some
       go (Err e) = tt
 
-  ending_grown : (e : Ending (Result (Unit {0}) SyntaxError)) → Grown (spending (length bs) (chain (finished e) (with_piece bs)))
-  ending_grown (Ended r) = piece_grown r
-  ending_grown (Fault f) = tt
-  ending_grown Worn = tt
-  ending_grown Full = tt
+  ending_grown : (e : Result (Result (Unit {0}) SyntaxError) Error) → Grown (spending (length bs) (chain e (with_piece bs)))
+  ending_grown (Ok r) = piece_grown r
+  ending_grown (Err e) = tt
 
   kind_grown : (k : BangKind) (r : Result ℕ Error) → Grown (spending (length bs) r) → BangGrown (spending (length bs) (with_kind k r))
   kind_grown k (Ok w) h = h
@@ -90,22 +84,17 @@ module _ (token : OpeningToken) (s : State) (buf : List ℕ) (p : ℕ) where
   bang_grown : BangGrown (bangs token s buf p).answer
   bang_grown = unless (admitted s.position (length buf) pending.Bang s.opening 2)
     where
-      named : (is : List Item) (q : ℕ) (k : Option BangType) → BangGrown (bang_named token s buf k is q).answer
-      named is q None = tt
-      named is q (Some k) =
+      named : (is : List Item) (q : ℕ) (r : Result BangType Error) → BangGrown (bang_named token s buf r is q).answer
+      named is q (Err e) = tt
+      named is q (Ok k) =
           let c = scan_cut (bang k) (bytes_in is) in
           let g = gather c (length buf) bang_prefix q is s.stream.tail in
           let grows = gather_grows c (length buf) bang_prefix q is s.stream.tail in
           let some : 1 ≤ length g.bytes = omega arith in
-          kind_grown g.bytes some (kind_of k) (chain (finished g.ending) (with_piece g.bytes)) (ending_grown g.bytes some g.ending)
-
-      behind : (is : List Item) (q : ℕ) (r : Result (Option ℕ) Error) → BangGrown (bang_behind token s buf r is q).answer
-      behind is q (Ok (Some b)) = named is q (bang_type b)
-      behind is q (Ok None) = tt
-      behind is q (Err e) = tt
+          kind_grown g.bytes some (kind_of k) (chain g.ending (with_piece g.bytes)) (ending_grown g.bytes some g.ending)
 
       first : (is : List Item) (q : ℕ) (r : Result (Option ℕ) Error) → BangGrown (bang_first token s buf r is q).answer
-      first is q (Ok (Some b)) = let a = await q (drop 1 is) s.stream.tail in behind a.left a.patience a.first
+      first is q (Ok (Some b)) = let a = await q (drop 1 is) s.stream.tail in named a.left a.patience (chain a.first bang_of)
       first is q (Ok None) = tt
       first is q (Err e) = tt
 
@@ -174,7 +163,7 @@ module _ (s : State) (buf : List ℕ) (p : ℕ) where
     ref_by : ByCalls s (at_ref first_text.buffer p first_text.after)
     ref_by = then (read_ref first_text.buffer p) (at_ref first_text.buffer p first_text.after) none refl (ref_taken (reads ref_reading first_text.after first_text.buffer p).answer)
 
-    byte_by : (b : ℕ) (t : OpeningToken) → (peeks the_token first_text.after p).answer ≡ Ok (Byte b t)
+    byte_by : (b : ℕ) (t : OpeningToken) → (peeks the_token first_text.after p).answer ≡ Ok (Some (b, t))
         → ByCalls s (by_byte first_text.buffer p b t (peeks the_token first_text.after p).after)
     byte_by b t e = go (eqb b 33) (eqb b 63)
       where
@@ -208,10 +197,10 @@ module _ (s : State) (buf : List ℕ) (p : ℕ) where
             → (told (answer.Peek (peeks the_token first_text.after p).answer)).taken ≡ (next_told o.answer).taken → ByCalls s o
         alone o after same = then (peek_one p) o none after same
 
-        go : (r : Result (Peeked OpeningToken) Refusal) → (peeks the_token first_text.after p).answer ≡ r
+        go : (r : Result (Option (ℕ × OpeningToken)) Refusal) → (peeks the_token first_text.after p).answer ≡ r
             → ByCalls s (behind_opening first_text.buffer p r (peeks the_token first_text.after p).after)
-        go (Ok (Byte b t)) e = byte_by b t e
-        go (Ok Nothing) e = alone _ refl (ap (λ x. (told (answer.Peek x)).taken) e)
+        go (Ok (Some (b, t))) e = byte_by b t e
+        go (Ok None) e = alone _ refl (ap (λ x. (told (answer.Peek x)).taken) e)
         go (Err r) e = alone _ refl (ap (λ x. (told (answer.Peek x)).taken) e)
 
   text_by : (a : Result ReadText Refusal) → first_text.answer ≡ a → ByCalls s (behind_text p a first_text.after first_text.buffer)

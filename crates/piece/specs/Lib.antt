@@ -1,3 +1,4 @@
+pub mod Kinds
 pub mod Shown
 pub mod Next
 pub mod Calls

@@ -14,10 +14,7 @@ use Rattle.model.specs.declared.answer.ReadText.{ReadText}
 use Rattle.model.specs.declared.answer.ReadText.TheVariants as text
 use Rattle.model.specs.declared.answer.ReadRef.{ReadRef}
 use Rattle.model.specs.declared.answer.ReadRef.TheVariants as ref
-use Rattle.model.specs.declared.answer.Peeked.{Peeked}
-use Rattle.model.specs.declared.answer.Peeked.TheVariants.{Byte, Nothing}
 use Rattle.model.specs.declared.answer.BangKind.{BangKind}
-use Rattle.model.specs.declared.answer.BangKind.TheVariants as bang
 use Rattle.model.specs.declared.answer.Refusal.{Refusal}
 use Rattle.model.specs.declared.answer.Refused.{Refused}
 use Rattle.model.specs.declared.answer.Refused.TheVariants.{Kept, Spent}
@@ -27,8 +24,9 @@ use Rattle.errors.specs.declared.Error.TheVariants.{Syntax}
 use Rattle.reader.specs.State.{the_token}
 use Rattle.reader.specs.Token.{OpeningToken}
 use Rattle.piece.specs.declared.kinds.Kind.{Kind}
-use Rattle.piece.specs.declared.kinds.Kind.TheVariants.{Text, Ref, Loose, Tag, Pi, Comment, CData, DocType}
+use Rattle.piece.specs.declared.kinds.Kind.TheVariants.{Text, Ref, Loose, Tag, Pi}
 use Rattle.piece.specs.declared.kinds.Piece.{Piece}
+use Rattle.piece.specs.Kinds.{bang_kind}
 
 -- a piece, none at the end, or a refusal
 abbrev pub Next : Type 0
@@ -84,11 +82,6 @@ abbrev pub of_with : Kind → Result ℕ (Refused OpeningToken) → Next
 of_with k (Ok w) = piece k w
 of_with k (Err r) = of_refused r
 
-abbrev pub bang_kind : BangKind → Kind
-bang_kind bang.CData = CData
-bang_kind bang.Comment = Comment
-bang_kind bang.DocType = DocType
-
 abbrev pub of_bang : Result (BangKind × ℕ) (Refused OpeningToken) → Next
 of_bang (Ok (k, w)) = piece (bang_kind k) w
 of_bang (Err r) = of_refused r
@@ -101,9 +94,9 @@ module _ (buf : List ℕ) (p : ℕ) where
       (cond (b == 63) (answering (of_with Pi) (reads (with_reading token (pi (after_question false))) s buf p))
       (answering (of_with Tag) (reads (with_reading token (element Outside)) s buf p)))
 
-  abbrev pub behind_opening : Result (Peeked OpeningToken) Refusal → State → Outcome Next
-  behind_opening (Ok (Byte b token)) s = by_byte b token s
-  behind_opening (Ok Nothing) s = outcome (Err (refusal (Syntax UnclosedTag) 0 1)) s buf
+  abbrev pub behind_opening : Result (Option (ℕ × OpeningToken)) Refusal → State → Outcome Next
+  behind_opening (Ok (Some (b, token))) s = by_byte b token s
+  behind_opening (Ok None) s = outcome (Err (refusal (Syntax UnclosedTag) 0 1)) s buf
   behind_opening (Err r) s = outcome (Err r) s buf
 
   abbrev pub at_markup : State → Outcome Next

@@ -25,7 +25,7 @@ pub fn show<'a>(piece: Piece, buf: &'a [u8]) -> Result<Shown<'a>, Error>
     if piece.written > buf.len() {
         return Err(Error::PieceTooLong);
     }
-    let front = &buf[0..piece.written];
+    let front = &buf[..piece.written];
     Ok(match piece.kind {
         Kind::Text => Shown::Text(front),
         Kind::Ref => Shown::Ref(front),

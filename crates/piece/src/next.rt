@@ -1,16 +1,12 @@
-ghost use Rattle.std.specs.Prelude.{◌≡◌, length, IfErr, Ok, Err};
-ghost use Rattle.parser.specs.declared.errors.SyntaxError.TheVariants.{UnclosedTag};
-ghost use Rattle.model.specs.Call.{outcome, admitted, refusal, reads, text_reading};
+ghost use Rattle.std.specs.Prelude.{◌≡◌, length, Ok, Err};
+ghost use Rattle.model.specs.Call.{outcome, admitted};
 ghost use Rattle.model.specs.declared.ending.Pending.TheVariants as pending;
-ghost use Rattle.errors.specs.declared.Error.TheVariants.{Syntax as syntax_error};
-ghost use Rattle.reader.specs.State.{state_of};
 ghost use Rattle.piece.specs.Calls.{PieceContinues};
-ghost use Rattle.piece.specs.Next.{of_text, of_ref, of_refused, of_with, of_bang, Spends, Opened, by_byte, at_markup, nexts, next_told, bang_kind as bang_kind_of};
+ghost use Rattle.piece.specs.Next.{of_text, of_ref, of_refused, Spends, Opened, by_byte, at_markup, nexts, next_told};
 
 use super::kinds::{Kind, Piece};
-use answers::{admit, taken_opening, untouched};
 use errors::Error;
-use model::{BangKind, Peeked, Pending, ReadRef, ReadText, Refusal, Refused, Told};
+use model::{Pending, ReadRef, ReadText, Refusal, Refused, Told};
 use parser::{ElementParser, PiParser, SyntaxError};
 use reader::{OpeningToken, Reader};
 use source::Source;
@@ -42,16 +38,6 @@ fn ref_piece(answer: Result<ReadRef, Refusal>) -> Result<Option<Piece>, Refusal>
     Ok(Some(Piece { kind, written }))
 }
 
-fn bang_kind(kind: BangKind) -> Kind
-    ensures { result ≡ bang_kind_of kind }
-{
-    match kind {
-        BangKind::CData => Kind::CData,
-        BangKind::Comment => Kind::Comment,
-        BangKind::DocType => Kind::DocType,
-    }
-}
-
 // The refusal of a piece whose `<` peek_one took. Behind peek_one no call hands its token back.
 fn spent(refused: Refused<OpeningToken>) -> Refusal
     requires { Spends refused }
@@ -59,50 +45,15 @@ fn spent(refused: Refused<OpeningToken>) -> Refusal
 {
     match refused {
         Refused::Spent(refusal) => Refusal {
-            error: refusal.error,
-            written: refusal.written,
             taken: refusal.taken + 1,
+            ..refusal
         },
         Refused::Kept(_, _) => unreachable(),
     }
 }
 
-fn with_piece(
-    kind: Kind,
-    answer: Result<usize, Refused<OpeningToken>>,
-) -> Result<Option<Piece>, Refusal>
-    requires { IfErr answer Spends }
-    ensures { result ≡ of_with kind answer }
-{
-    match answer {
-        Ok(written) => Ok(Some(Piece { kind, written })),
-        Err(refused) => Err(spent(refused)),
-    }
-}
-
-fn bang_piece(
-    answer: Result<(BangKind, usize), Refused<OpeningToken>>,
-) -> Result<Option<Piece>, Refusal>
-    requires { IfErr answer Spends }
-    ensures { result ≡ of_bang answer }
-{
-    match answer {
-        Ok((kind, written)) => Ok(Some(Piece {
-            kind: bang_kind(kind),
-            written,
-        })),
-        Err(refused) => Err(spent(refused)),
-    }
-}
-
-// A `<` with nothing behind it.
-fn lone_opening() -> Refusal
-    ensures { result ≡ refusal (syntax_error UnclosedTag) 0 1 }
-{
-    taken_opening(Error::Syntax(SyntaxError::UnclosedTag))
-}
-
-// The piece that begins with `<` and the byte behind it.
+// The piece that begins with `<` and the byte behind it. Here and below no struct holds the reader and the buffer: it would need
+// clauses that it keeps each `&mut`.
 fn opened_piece<S: Source>(
     reader: &mut Reader<S>,
     b: u8,
@@ -110,20 +61,25 @@ fn opened_piece<S: Source>(
     buf: &mut [u8],
     patience: u32,
 ) -> Result<Option<Piece>, Refusal>
-    requires { Opened (state_of S.Source.stream reader.old) (length buf.old) b }
-    ensures { outcome result (state_of S.Source.stream reader.new) buf.new ≡ by_byte buf.old patience b token (state_of S.Source.stream reader.old) }
+    requires { Opened reader.old (length buf.old) b }
+    ensures { outcome result reader.new buf.new ≡ by_byte buf.old patience b token reader.old }
 {
-    match b {
-        b'!' => bang_piece(reader.read_bang_element(token, buf, patience)),
-        b'?' => with_piece(
-            Kind::Pi,
-            reader.read_with(token, PiParser::default(), buf, patience),
-        ),
-        _ => with_piece(
-            Kind::Tag,
-            reader.read_with(token, ElementParser::default(), buf, patience),
-        ),
-    }
+    let (kind, written) = match b {
+        b'!' => {
+            let answer = reader.read_bang_element(token, buf, patience);
+            let (bang, written) = answer.map_err(spent)?;
+            (Kind::from(bang), written)
+        }
+        b'?' => {
+            let answer = reader.read_with(token, PiParser::default(), buf, patience);
+            (Kind::Pi, answer.map_err(spent)?)
+        }
+        _ => {
+            let answer = reader.read_with(token, ElementParser::default(), buf, patience);
+            (Kind::Tag, answer.map_err(spent)?)
+        }
+    };
+    Ok(Some(Piece { kind, written }))
 }
 
 // The piece that begins with a `<`.
@@ -133,23 +89,12 @@ fn markup_piece<S: Source>(
     patience: u32,
 ) -> Result<Option<Piece>, Refusal>
     requires { Ok tt ≡ admitted reader.old.position (length buf.old) pending.Nothing reader.old.opening 2 }
-    ensures { outcome result (state_of S.Source.stream reader.new) buf.new ≡ at_markup buf.old patience (state_of S.Source.stream reader.old) }
+    ensures { outcome result reader.new buf.new ≡ at_markup buf.old patience reader.old }
 {
     match reader.peek_one(patience)? {
-        Peeked::Byte(b, token) => opened_piece(reader, b, token, buf, patience),
-        Peeked::Nothing => Err(lone_opening()),
+        Some((b, token)) => opened_piece(reader, b, token, buf, patience),
+        None => Err(Refusal::taken_opening(SyntaxError::UnclosedTag.into())),
     }
-}
-
-// The reader's read_text, by its equation alone: its other clauses would only lengthen the search for next_piece's proof.
-fn read_text<S: Source>(
-    reader: &mut Reader<S>,
-    buf: &mut [u8],
-    patience: u32,
-) -> Result<ReadText, Refusal>
-    ensures { outcome result (state_of S.Source.stream reader.new) buf.new ≡ reads text_reading (state_of S.Source.stream reader.old) buf.old patience }
-{
-    reader.read_text(buf, patience)
 }
 
 fn next_piece_inner<S: Source>(
@@ -157,18 +102,12 @@ fn next_piece_inner<S: Source>(
     buf: &mut [u8],
     patience: u32,
 ) -> Result<Option<Piece>, Refusal>
-    ensures { outcome result (state_of S.Source.stream reader.new) buf.new ≡ nexts (state_of S.Source.stream reader.old) buf.old patience }
+    ensures { outcome result reader.new buf.new ≡ nexts reader.old buf.old patience }
 {
-    if let Err(error) = admit(
-        reader.position(),
-        buf.len(),
-        Pending::Nothing,
-        reader.opening(),
-        2,
-    ) {
-        return Err(untouched(error));
-    }
-    let answer = read_text(reader, buf, patience);
+    reader
+        .admit(buf.len(), Pending::Nothing, 2)
+        .map_err(Refusal::untouched)?;
+    let answer = reader.read_text(buf, patience);
     let Ok(stop @ (ReadText::Markup | ReadText::Ref)) = answer else {
         return text_piece(answer);
     };
@@ -184,8 +123,8 @@ pub fn next_piece<S: Source>(
     buf: &mut [u8],
     patience: u32,
 ) -> Result<Option<Piece>, Refusal>
-    ensures does { outcome result (state_of S.Source.stream reader.new) buf.new ≡ nexts (state_of S.Source.stream reader.old) buf.old patience }
-    ensures report { PieceContinues (state_of S.Source.stream reader.old) (outcome result (state_of S.Source.stream reader.new) buf.new) }
+    ensures does { outcome result reader.new buf.new ≡ nexts reader.old buf.old patience }
+    ensures report { PieceContinues reader.old (outcome result reader.new buf.new) }
 {
     next_piece_inner(reader, buf, patience)
 }
@@ -194,14 +133,15 @@ pub fn next_piece<S: Source>(
 pub fn next_told(answer: &Result<Option<Piece>, Refusal>) -> Told
     ensures { result ≡ next_told answer.now }
 {
-    let written = match answer {
-        Ok(Some(piece)) => piece.written,
-        Ok(None) => 0,
-        Err(refusal) => return refusal.told(),
-    };
-    Told {
-        number: 0,
-        written,
-        taken: written,
+    match answer {
+        Ok(piece) => {
+            let written = piece.map_or(0, |piece| piece.written);
+            Told {
+                number: 0,
+                written,
+                taken: written,
+            }
+        }
+        Err(refusal) => refusal.told(),
     }
 }

@@ -1,30 +1,21 @@
 -- Each call answers as quick-xml's does. Assumes nothing.
-use Rattle.std.proofs.Common.{◌≡◌, ℕ, zero, suc, ◌+◌, ◌-◌, ◌^◌, ◌<◌, ◌≤◌, Bool, true, false, cond, eqb, leb, List, [], ◌∷◌, ◌++◌, length, get_or, take, drop, is_some, Some, None, Ok, Err, Option, Result, sym, refl, ap, ◌∙◌, subst, inl, inr, arith, length-append, length-drop, length-take, lt-ltb, le-leb}
+use Rattle.std.proofs.Common.{◌≡◌, ℕ, zero, suc, ◌+◌, ◌-◌, ◌^◌, ◌<◌, ◌≤◌, Bool, true, false, cond, eqb, List, [], ◌∷◌, ◌++◌, length, get_or, take, drop, is_some, Some, None, Ok, Err, Option, Result, sym, refl, ap, ◌∙◌, subst, inl, inr, arith, length-append, length-drop, length-take}
+use Rattle.std.proofs.lemmas.Bool.{lt-leb, le-ltb}
 use lib.Seq.{take-append_seam}
-use Rattle.std.specs.Option.{ok_or}
 use Rattle.source.specs.declared.fault.Fault.{Fault}
-use Rattle.source.specs.Stream.{Item, Tail, end, fault, bytes_in, bytes_of}
-use Rattle.parser.specs.Scan.{Verdict, stop, unclosed, Meaning, Prefix}
-use Rattle.parser.specs.CData.{cdata_due}
-use Rattle.parser.specs.Doubled.{doubled_step}
-use Rattle.bang.specs.Comment.{bang_comment_step, bang_comment_due}
-use Rattle.bang.specs.Bang.{bang, bang_type}
-use Rattle.bang.specs.Dtd.{dtd_step, dtd_due}
+use Rattle.source.specs.Stream.{Item, Tail, end, fault, bytes_in, bytes_of, waits_in}
+use Rattle.parser.specs.Scan.{Verdict, stop, unclosed}
+use Rattle.bang.specs.Bang.{bang, bang-prefix}
 use Rattle.bang.specs.declared.bang.BangType.{BangType}
-use Rattle.bang.specs.declared.bang.BangType.TheVariants.{CData, Comment, DocType}
 use Rattle.parser.specs.declared.errors.SyntaxError.{SyntaxError}
-use Rattle.parser.specs.declared.errors.SyntaxError.TheVariants.{InvalidBangMarkup}
-use Rattle.parser.specs.Machines.{prefix}
 use Rattle.utf8.specs.Utf8.{judged}
 use Rattle.utf8.specs.declared.Utf8Error.{Utf8Error}
 use Rattle.model.specs.Cut.{Cut, before, through, nowhere, behind_one, behind, ref_cut, verdict_cut}
 use Rattle.model.specs.Gather.{Gathered, gather}
 use Rattle.model.specs.Told.{text_told, ref_told, peek_told, with_told, bang_told}
-use Rattle.model.specs.Call.{State, left_with, Outcome, outcome, pends, admitted, chain, finished, checked, over, refusal, taking, spending, text_kind, text_piece, ref_piece, with_piece, read_piece, unless_early, text_reading, ref_reading, with_reading}
+use Rattle.model.specs.Call.{State, left_with, Outcome, outcome, pends, admitted, chain, checked, over, taking, spending, text_kind, text_piece, ref_piece, with_piece, read_piece, unless_early, text_reading, ref_reading, with_reading}
 use Rattle.model.specs.Peek.{peek_behind, peek_first, peek_unless, await}
-use Rattle.model.specs.Bang.{kind_of, bang_prefix, with_kind, bang_stuck, bang_piece, bang_behind, bang_named, bang_first, bang_unless}
-use Rattle.model.specs.declared.ending.Ending.{Ending}
-use Rattle.model.specs.declared.ending.Ending.TheVariants.{Ended, Fault as Failed, Worn, Full}
+use Rattle.model.specs.Bang.{kind_of, bang_of, bang_prefix, with_kind, bang_stuck, bang_piece, bang_named, bang_first, bang_unless}
 use Rattle.model.specs.declared.ending.Pending.{Pending}
 use Rattle.model.specs.declared.ending.Pending.TheVariants as pending
 use Rattle.model.specs.declared.ending.TextEnd.{TextEnd}
@@ -39,51 +30,49 @@ use Rattle.model.specs.declared.answer.BangKind.{BangKind}
 use Rattle.model.specs.declared.answer.Refusal.{Refusal}
 use Rattle.model.specs.declared.answer.Told.{Told}
 use Rattle.errors.specs.declared.Error.{Error}
-use Rattle.errors.specs.declared.Error.TheVariants.{Position, BufferTooLong, BufferTooShort, Patience, Io, FirstByte, BufferFull, Syntax, Utf8}
-use Rattle.quick.specs.QuickXml.{Returned, returned, place, text_of, at_tail, first, appending, text_by, ref_by, rust_read_ref, rust_peek_one, scan_by, rust_read_with, bang_new, bang_by, rust_read_bang_element}
-use Rattle.quick.specs.Answers.{plain_answer, plain_turned, plain_peeked, waits, AnswersAs, TextAsQuickXml, RefAsQuickXml, PeekAsQuickXml, WithAsQuickXml, BangAsQuickXml}
-use Rattle.quick.proofs.Cuts.{place_inside, behind-before, behind_through, text_sought, text_end_at, text_cut_by, text_cut-place, name_sought, name_end_at, name_cut_by, name_cut-place}
+use Rattle.errors.specs.declared.Error.TheVariants.{Io, Syntax}
+use Rattle.model.proofs.Cuts.{behind-before, behind_through}
+use Rattle.model.proofs.Counts.{counts, text-counts, ref-counts, one_before, scanned_counts}
+use Rattle.quick.specs.QuickXml.{Returned, returned, place, text_of, at_tail, first, appending, text_by, ref_by, rust_read_ref, rust_peek_one, scan_by, rust_read_with, bang_by, rust_read_bang_element}
+use Rattle.quick.specs.Answers.{plain_answer, plain_turned, plain_peeked, AnswersAs, TextAsQuickXml, RefAsQuickXml, PeekAsQuickXml, WithAsQuickXml, BangAsQuickXml}
+use Rattle.quick.proofs.Cuts.{place_inside, text_sought, text_end_at, text_cut_by, text_cut-place, name_sought, name_end_at, name_cut_by, name_cut-place}
 use Rattle.quick.proofs.Gathers.{cut_length, Inside, cut_ending, piece, gather_cuts_in, await-behind}
 
 -- a call that is not refused before any look
 admits : (position size : ℕ) (wanted : Pending) (opening : Option ℕ) (least : ℕ) → position < 2 ^ 63 → size ≤ 16777216 → pends wanted opening ≡ Ok tt → least ≤ size
     → admitted position size wanted opening least ≡ Ok tt
 admits position size wanted opening least h k q l =
-    ap (λ v. cond v (cond (leb size 16777216) (chain (pends wanted opening) (λ _. cond (leb least size) (Ok tt) (Err BufferTooShort))) (Err BufferTooLong)) (Err Position)) (lt-ltb position (2 ^ 63) h)
-    ∙ ap (λ v. cond v (chain (pends wanted opening) (λ _. cond (leb least size) (Ok tt) (Err BufferTooShort))) (Err BufferTooLong)) (le-leb size 16777216 k)
-    ∙ ap (λ r. chain r (λ _. cond (leb least size) (Ok tt) (Err BufferTooShort))) q
-    ∙ ap (λ v. cond v (Ok tt) (Err BufferTooShort)) (le-leb least size l)
-
--- how many bytes are told to be written and taken
-abbrev pub Tells : Told → ℕ → ℕ → Type 0
-Tells a w t = (a.written ≡ w) × (a.taken ≡ t)
+    let counts = lt-leb (2 ^ 63) position h in
+    let short = le-ltb 16777216 size k in
+    let long = le-ltb size least l in
+    rw (counts, short, q, long)
 
 -- what ends a piece that no byte ends
-tail_ends : {A E : Type 0} (due : List ℕ → E) (w : List ℕ) (f : E → Result A Error) (t : Tail) → chain (finished (cut_ending (nowhere due) w t)) f ≡ at_tail t (f (due w))
+tail_ends : {A E : Type 0} (due : List ℕ → E) (w : List ℕ) (f : E → Result A Error) (t : Tail) → chain (cut_ending (nowhere due) w t) f ≡ at_tail t (f (due w))
 tail_ends due w f end = refl
 tail_ends due w f (fault x) = refl
 
 -- a call that answers to a gathering; `ahead` bytes of what it writes were taken before
-module _ {A B E : Type 0} (plain : B → Result A Error) (told : B → Told) (answer : List ℕ → Ending E → B) (ahead : ℕ)
-    (tells : (w : List ℕ) (e : Ending E) → Tells (told (answer w e)) (length w) (length w - ahead)) (s : State) (buf : List ℕ) where
+module _ {A B E : Type 0} (plain : B → Result A Error) (told : B → Told) (answer : List ℕ → Result E Error → B) (ahead : ℕ)
+    (tells : (w : List ℕ) (e : Result E Error) → counts (told (answer w e)) ≡ (length w, length w - ahead)) (s : State) (buf : List ℕ) where
   abbrev pub answered : Gathered E → Outcome B
   answered g = outcome (answer g.bytes g.ending) (left_with s g.left (s.position + length g.bytes) None) (over g.bytes buf)
 
-  piece_as : (g : Gathered E) (w l : List ℕ) (e : Ending E) → g.bytes ≡ w → bytes_in g.left ≡ l → g.ending ≡ e
+  piece_as : (g : Gathered E) (w l : List ℕ) (e : Result E Error) → g.bytes ≡ w → bytes_in g.left ≡ l → g.ending ≡ e
       → length w + length l ≡ length (bytes_of s.stream) + ahead → ahead ≤ length w
       → AnswersAs plain told s (returned (plain (answer w e)) w (s.position + length w) l) (answered g)
   piece_as g w l e bytes left ending count short = record {
     answer = ap (λ v. plain (answer v g.ending)) bytes ∙ ap (λ v. plain (answer w v)) ending;
-    written = (tells g.bytes g.ending).0 ∙ ap length bytes;
-    front = ap (λ n. take n (over g.bytes buf)) (tells g.bytes g.ending).0 ∙ take-append_seam g.bytes (drop (length g.bytes) buf) ∙ bytes;
-    taken = omega (arith, (tells g.bytes g.ending).1, ap length bytes);
+    written = ap (λ x. x.0) (tells g.bytes g.ending) ∙ ap length bytes;
+    front = ap (λ x. take x.0 (over g.bytes buf)) (tells g.bytes g.ending) ∙ take-append_seam g.bytes (drop (length g.bytes) buf) ∙ bytes;
+    taken = omega (arith, ap (λ x. x.1) (tells g.bytes g.ending), ap length bytes);
     position = ap (λ v. s.position + length v) bytes;
     left = left;
     tail = refl;
   }
 
   -- by the cut, with the bytes bs among the items
-  module _ (so_far : List ℕ) (p : ℕ) (is : List Item) (bs : List ℕ) (same : bytes_in is ≡ bs) (patient : waits is ≤ p)
+  module _ (so_far : List ℕ) (p : ℕ) (is : List Item) (bs : List ℕ) (same : bytes_in is ≡ bs) (patient : waits_in is ≤ p)
       (count : length so_far + length bs ≡ length (bytes_of s.stream) + ahead) (short : ahead ≤ length so_far) where
     abbrev pub gathering : Cut E → Outcome B
     gathering c = answered (gather c (length buf) so_far p is s.stream.tail)
@@ -109,38 +98,19 @@ plain-taking : {A : Type 0} (w : ℕ) (r : Result A Error) → plain_answer (tak
 plain-taking w (Ok a) = refl
 plain-taking w (Err e) = refl
 
--- a call that takes what it writes
-module _ {A : Type 0} (told : Result A Refusal → Told) (refuses : (r : Refusal) → Tells (told (Err r)) r.written r.taken) where
-  err_tells : (n : ℕ) (e : Error) → Tells (told (taking n (Err e))) n (n - 0)
-  err_tells n e = ((refuses (refusal e n n)).0, omega (arith, (refuses (refusal e n n)).1))
+text_tells : (w : List ℕ) (e : Result TextEnd Error) → counts (text_told (text_reading.answer w e)) ≡ (length w, length w - 0)
+text_tells w e = text-counts w e ∙ ap (λ k. (length w, k)) (omega arith)
 
-  checked_tells : (n : ℕ) (a : A) (v : Result (Unit {0}) Utf8Error) → Tells (told (Ok a)) n n → Tells (told (taking n (checked v a))) n (n - 0)
-  checked_tells n a (Ok u) h = (h.0, omega (arith, h.1))
-  checked_tells n a (Err e) h = err_tells n (Utf8 e)
-
-text_tells : (w : List ℕ) (e : Ending TextEnd) → Tells (text_told (text_reading.answer w e)) (length w) (length w - 0)
-text_tells w (Ended x) = checked_tells text_told (λ _. (refl, refl)) (length w) (text_kind x (length w)) (judged w) (go x (length w))
-  where
-    go : (x : TextEnd) (n : ℕ) → Tells (text_told (Ok (text_kind x n))) n n
-    go text_end.Markup zero = (refl, refl)
-    go text_end.Markup (suc n) = (refl, refl)
-    go text_end.Ref zero = (refl, refl)
-    go text_end.Ref (suc n) = (refl, refl)
-    go text_end.Eof n = (refl, refl)
-text_tells w (Failed f) = err_tells text_told (λ _. (refl, refl)) (length w) (Io f)
-text_tells w Worn = err_tells text_told (λ _. (refl, refl)) (length w) Patience
-text_tells w Full = err_tells text_told (λ _. (refl, refl)) (length w) BufferFull
-
-module _ (s : State) (buf : List ℕ) (p : ℕ) (patient : waits s.stream.items ≤ p) where
+module _ (s : State) (buf : List ℕ) (p : ℕ) (patient : waits_in s.stream.items ≤ p) where
   abbrev text_from : Cut TextEnd → Outcome (Result ReadText Refusal)
   text_from c = read_piece text_reading s buf p (gather c (length buf) [] p s.stream.items s.stream.tail)
 
   text_cut_as : (c : Cut TextEnd) → Inside c (bytes_of s.stream) → length (piece c [] (bytes_of s.stream)) ≤ length buf → (r : Result ReadText Error)
-      → chain (finished (cut_ending c (piece c [] (bytes_of s.stream)) s.stream.tail)) (text_piece (piece c [] (bytes_of s.stream))) ≡ r
+      → chain (cut_ending c (piece c [] (bytes_of s.stream)) s.stream.tail) (text_piece (piece c [] (bytes_of s.stream))) ≡ r
       → AnswersAs plain_answer text_told s (returned r (piece c [] (bytes_of s.stream)) (s.position + length (piece c [] (bytes_of s.stream))) (drop (cut_length c (bytes_of s.stream)) (bytes_of s.stream))) (text_from c)
   text_cut_as c h room r e =
       cut_as plain_answer text_told text_reading.answer 0 text_tells s buf [] p s.stream.items (bytes_of s.stream) refl patient (omega arith) (omega arith) c h room r
-      (plain-taking (length (piece c [] (bytes_of s.stream))) (chain (finished (cut_ending c (piece c [] (bytes_of s.stream)) s.stream.tail)) (text_piece (piece c [] (bytes_of s.stream)))) ∙ e)
+      (plain-taking (length (piece c [] (bytes_of s.stream))) (chain (cut_ending c (piece c [] (bytes_of s.stream)) s.stream.tail) (text_piece (piece c [] (bytes_of s.stream)))) ∙ e)
 
   text_by_as : (o : Option ℕ) → ((i : ℕ) → o ≡ Some i → i < length (bytes_of s.stream)) → length (text_by o (bytes_of s.stream) s.stream.tail s.position).bytes ≤ length buf
       → AnswersAs plain_answer text_told s (text_by o (bytes_of s.stream) s.stream.tail s.position) (text_from (text_cut_by o (bytes_of s.stream)))
@@ -178,28 +148,21 @@ text_as s buf p opening enough =
     (subst (λ c. AnswersAs plain_answer text_told s rust (text_from s buf p enough.patient c)) (sym (text_cut-place bs))
     (text_by_as s buf p enough.patient (place text_sought bs) (place_inside text_sought bs) enough.room))
 
-ref_tells : (w : List ℕ) (e : Ending RefEnd) → Tells (ref_told (ref_reading.answer w e)) (length w) (length w - 0)
-ref_tells w (Ended ref_end.Semicolon) = checked_tells ref_told (λ _. (refl, refl)) (length w) (ref.Ref (length w)) (judged w) (refl, refl)
-ref_tells w (Ended ref_end.Markup) = checked_tells ref_told (λ _. (refl, refl)) (length w) (ref.UpToMarkup (length w)) (judged w) (refl, refl)
-ref_tells w (Ended ref_end.Ref) = checked_tells ref_told (λ _. (refl, refl)) (length w) (ref.UpToRef (length w)) (judged w) (refl, refl)
-ref_tells w (Ended ref_end.Eof) = checked_tells ref_told (λ _. (refl, refl)) (length w) (ref.UpToEof (length w)) (judged w) (refl, refl)
-ref_tells w (Ended ref_end.NotRef) = err_tells ref_told (λ _. (refl, refl)) (length w) FirstByte
-ref_tells w (Failed f) = err_tells ref_told (λ _. (refl, refl)) (length w) (Io f)
-ref_tells w Worn = err_tells ref_told (λ _. (refl, refl)) (length w) Patience
-ref_tells w Full = err_tells ref_told (λ _. (refl, refl)) (length w) BufferFull
+ref_tells : (w : List ℕ) (e : Result RefEnd Error) → counts (ref_told (ref_reading.answer w e)) ≡ (length w, length w - 0)
+ref_tells w e = ref-counts w e ∙ ap (λ k. (length w, k)) (omega arith)
 
-module _ (s : State) (buf : List ℕ) (p : ℕ) (patient : waits s.stream.items ≤ p) where
+module _ (s : State) (buf : List ℕ) (p : ℕ) (patient : waits_in s.stream.items ≤ p) where
   abbrev ref_from : Cut RefEnd → Outcome (Result ReadRef Refusal)
   ref_from c = read_piece ref_reading s buf p (gather c (length buf) [] p s.stream.items s.stream.tail)
 
   -- with the bytes bs in the source
   module _ (bs : List ℕ) (same : bytes_of s.stream ≡ bs) where
     ref_cut_as : (c : Cut RefEnd) → Inside c bs → length (piece c [] bs) ≤ length buf → (r : Result ReadRef Error)
-        → chain (finished (cut_ending c (piece c [] bs) s.stream.tail)) (ref_piece (piece c [] bs)) ≡ r
+        → chain (cut_ending c (piece c [] bs) s.stream.tail) (ref_piece (piece c [] bs)) ≡ r
         → AnswersAs plain_answer ref_told s (returned r (piece c [] bs) (s.position + length (piece c [] bs)) (drop (cut_length c bs) bs)) (ref_from c)
     ref_cut_as c h room r e =
         cut_as plain_answer ref_told ref_reading.answer 0 ref_tells s buf [] p s.stream.items bs same patient (omega (arith, ap length same)) (omega arith) c h room r
-        (plain-taking (length (piece c [] bs)) (chain (finished (cut_ending c (piece c [] bs) s.stream.tail)) (ref_piece (piece c [] bs))) ∙ e)
+        (plain-taking (length (piece c [] bs)) (chain (cut_ending c (piece c [] bs) s.stream.tail) (ref_piece (piece c [] bs))) ∙ e)
 
   ref_none_as : bytes_of s.stream ≡ [] → AnswersAs plain_answer ref_told s (rust_read_ref [] s.stream.tail s.position) (ref_from (ref_cut []))
   ref_none_as same =
@@ -263,11 +226,11 @@ scan_long f (stop k) pushed bs t q = simp length-append (omega arith)
 scan_long f (unclosed due) pushed bs t q = simp length-append (omega arith)
 
 -- a call that reads what a scanner ends
-module _ {A B : Type 0} (plain : B → Result A Error) (told : B → Told) (answer : List ℕ → Ending (Result (Unit {0}) SyntaxError) → B)
-    (tells : (w : List ℕ) (e : Ending (Result (Unit {0}) SyntaxError)) → Tells (told (answer w e)) (length w) (length w - 1))
-    (f : ℕ → A) (ends : (w : List ℕ) → plain (answer w (Ended (Ok tt))) ≡ text_of f w) (unended : (w : List ℕ) (e : SyntaxError) → plain (answer w (Ended (Err e))) ≡ Err (Syntax e))
-    (fails : (w : List ℕ) (x : Fault) → plain (answer w (Failed x)) ≡ Err (Io x)) (s : State) (buf : List ℕ) where
-  scan_as : (v : Verdict) (pushed : List ℕ) (p : ℕ) (is : List Item) (bs : List ℕ) → bytes_in is ≡ bs → waits is ≤ p
+module _ {A B : Type 0} (plain : B → Result A Error) (told : B → Told) (answer : List ℕ → Result (Result (Unit {0}) SyntaxError) Error → B)
+    (tells : (w : List ℕ) (e : Result (Result (Unit {0}) SyntaxError) Error) → counts (told (answer w e)) ≡ one_before w)
+    (f : ℕ → A) (ends : (w : List ℕ) → plain (answer w (Ok (Ok tt))) ≡ text_of f w) (unended : (w : List ℕ) (e : SyntaxError) → plain (answer w (Ok (Err e))) ≡ Err (Syntax e))
+    (fails : (w : List ℕ) (x : Fault) → plain (answer w (Err (Io x))) ≡ Err (Io x)) (s : State) (buf : List ℕ) where
+  scan_as : (v : Verdict) (pushed : List ℕ) (p : ℕ) (is : List Item) (bs : List ℕ) → bytes_in is ≡ bs → waits_in is ≤ p
       → length pushed + length bs ≡ length (bytes_of s.stream) + 1 → 1 ≤ length pushed → ((k : ℕ) → v ≡ stop k → k < length bs)
       → length (scan_by v pushed f bs s.stream.tail s.position).bytes ≤ length buf
       → AnswersAs plain told s (scan_by v pushed f bs s.stream.tail s.position) (answered plain told answer 1 tells s buf (gather (verdict_cut v) (length buf) pushed p is s.stream.tail))
@@ -283,27 +246,16 @@ module _ {A B : Type 0} (plain : B → Result A Error) (told : B → Told) (answ
       go w (fault x) = fails w x
 
 module _ {T : Type 0} (token : T) where
-  with_tells : (m : Meaning) (w : List ℕ) (e : Ending (Result (Unit {0}) SyntaxError)) → Tells (with_told ((with_reading token m).answer w e)) (length w) (length w - 1)
-  with_tells m w (Ended (Ok u)) = go (judged w)
-    where
-      go : (v : Result (Unit {0}) Utf8Error) → Tells (with_told (spending {T = T} (length w) (checked v (length w)))) (length w) (length w - 1)
-      go (Ok u) = (refl, refl)
-      go (Err e) = (refl, refl)
-  with_tells m w (Ended (Err e)) = (refl, refl)
-  with_tells m w (Failed x) = (refl, refl)
-  with_tells m w Worn = (refl, refl)
-  with_tells m w Full = (refl, refl)
-
   pub with_as : WithAsQuickXml token
   with_as m ends s buf p opening enough =
       let bs = bytes_of s.stream in
       subst (λ r. AnswersAs plain_turned with_told s (rust_read_with m bs s.stream.tail s.position) (unless_early (with_reading token m) s buf p r))
       (sym (admits s.position (length buf) pending.Opening s.opening 1 enough.counts enough.size (pending_some s.opening opening) (omega (arith, enough.room, scan_long (λ n. n) (m bs) (60 ∷ []) bs s.stream.tail s.position))))
-      (scan_as plain_turned with_told (with_reading token m).answer (with_tells m) (λ n. n) (λ w. turned_spending T (length w) (text_of (λ n. n) w)) (λ w e. refl) (λ w x. refl) s buf
+      (scan_as plain_turned with_told (with_reading token m).answer (λ w. scanned_counts w (spending (length w)) (λ r. counts (with_told {T = T} r)) (λ _. refl) refl) (λ n. n) (λ w. turned_spending T (length w) (text_of (λ n. n) w)) (λ w e. refl) (λ w x. refl) s buf
       (m bs) (60 ∷ []) p s.stream.items bs refl enough.patient (omega arith) (omega arith) (λ k e. (ends bs k e).0) enough.room)
     where
       pending_some : (o : Option ℕ) → is_some o ≡ true → pends pending.Opening o ≡ Ok tt
-      pending_some None e = let z : ◌≡◌ {A = ℕ} 0 1 = cc in absurd (omega arith)
+      pending_some None e = cc
       pending_some (Some b) e = refl
 
   peek_behind_as : (s : State) (v : Result (Option ℕ) Error) (is : List Item) (bs : List ℕ) → bytes_in is ≡ bs → suc (length bs) ≡ length (bytes_of s.stream)
@@ -326,45 +278,23 @@ module _ {T : Type 0} (token : T) where
       (subst (λ r. AnswersAs plain_peeked peek_told s rust (peek_behind token s r (await a.patience (drop 1 a.left) t).left)) (sym stands.1.first_is)
       (peek_behind_as s (first bs t) (await a.patience (drop 1 a.left) t).left bs stands.1.left (omega (arith, ap length begins.1))))))
 
-  bang_tells : (k : BangKind) (w : List ℕ) (e : Ending (Result (Unit {0}) SyntaxError)) → Tells (bang_told (spending {T = T} (length w) (with_kind k (chain (finished e) (with_piece w))))) (length w) (length w - 1)
-  bang_tells k w (Ended (Ok u)) = go (judged w)
-    where
-      go : (v : Result (Unit {0}) Utf8Error) → Tells (bang_told (spending {T = T} (length w) (with_kind k (checked v (length w))))) (length w) (length w - 1)
-      go (Ok u) = (refl, refl)
-      go (Err e) = (refl, refl)
-  bang_tells k w (Ended (Err e)) = (refl, refl)
-  bang_tells k w (Failed x) = (refl, refl)
-  bang_tells k w Worn = (refl, refl)
-  bang_tells k w Full = (refl, refl)
-
-  bang_ends : (b : BangType) → Prefix (bang b)
-  bang_ends (CData s) = prefix doubled_step cdata_due s
-  bang_ends (Comment s) = prefix bang_comment_step bang_comment_due s
-  bang_ends (DocType s) = prefix dtd_step dtd_due s
-
   -- behind the `!`
-  module _ (s : State) (buf : List ℕ) (is : List Item) (q : ℕ) (bs : List ℕ) (same : bytes_in is ≡ bs) (patient : waits is ≤ q) (count : suc (length bs) ≡ length (bytes_of s.stream)) where
+  module _ (s : State) (buf : List ℕ) (is : List Item) (q : ℕ) (bs : List ℕ) (same : bytes_in is ≡ bs) (patient : waits_in is ≤ q) (count : suc (length bs) ≡ length (bytes_of s.stream)) where
     bang_stuck_as : (e : Error) → AnswersAs plain_turned bang_told s (returned (Err e) (60 ∷ 33 ∷ []) s.position bs) (bang_stuck token s buf bang_prefix 1 e is)
     bang_stuck_as e = record { answer = refl; written = refl; front = refl; taken = omega arith; position = refl; left = same; tail = refl }
 
-    bang_kind_as : (o : Option BangType) → length (bang_by (ok_or o (Syntax InvalidBangMarkup)) bs s.stream.tail s.position).bytes ≤ length buf
-        → AnswersAs plain_turned bang_told s (bang_by (ok_or o (Syntax InvalidBangMarkup)) bs s.stream.tail s.position) (bang_named token s buf o is q)
-    bang_kind_as None room = bang_stuck_as (Syntax InvalidBangMarkup)
-    bang_kind_as (Some b) room =
+    bang_named_as : (r : Result BangType Error) → length (bang_by r bs s.stream.tail s.position).bytes ≤ length buf
+        → AnswersAs plain_turned bang_told s (bang_by r bs s.stream.tail s.position) (bang_named token s buf r is q)
+    bang_named_as (Err e) room = bang_stuck_as e
+    bang_named_as (Ok b) room =
         let k = kind_of b in
         subst (λ l. AnswersAs plain_turned bang_told s (bang_by (Ok b) bs s.stream.tail s.position) (bang_piece token s buf k (gather (verdict_cut (bang b l)) (length buf) bang_prefix q is s.stream.tail))) (sym same)
-        (scan_as plain_turned bang_told (λ w e. spending (length w) (with_kind k (chain (finished e) (with_piece w)))) (bang_tells k) (λ n. (k, n)) (λ w. go k (length w) (judged w)) (λ w e. refl) (λ w x. refl) s buf
-        (bang b bs) bang_prefix q is bs same patient (omega arith) (omega arith) (λ j e. (bang_ends b bs j e).0) room)
+        (scan_as plain_turned bang_told (λ w e. spending (length w) (with_kind k (chain e (with_piece w)))) (λ w. scanned_counts w (λ r. spending {T = T} (length w) (with_kind k r)) (λ r. counts (bang_told r)) (λ _. refl) refl) (λ n. (k, n)) (λ w. go k (length w) (judged w)) (λ w e. refl) (λ w x. refl) s buf
+        (bang b bs) bang_prefix q is bs same patient (omega arith) (omega arith) (λ j e. (bang-prefix b bs j e).0) room)
       where
         go : (k : BangKind) (n : ℕ) (v : Result (Unit {0}) Utf8Error) → plain_turned {T = T} (spending n (with_kind k (checked v n))) ≡ checked v (k, n)
         go k n (Ok u) = refl
         go k n (Err e) = refl
-
-    bang_behind_as : (v : Result (Option ℕ) Error) → length (bang_by (chain v bang_new) bs s.stream.tail s.position).bytes ≤ length buf
-        → AnswersAs plain_turned bang_told s (bang_by (chain v bang_new) bs s.stream.tail s.position) (bang_behind token s buf v is q)
-    bang_behind_as (Ok (Some b)) room = bang_kind_as (bang_type b) room
-    bang_behind_as (Ok None) room = bang_stuck_as (Syntax InvalidBangMarkup)
-    bang_behind_as (Err e) room = bang_stuck_as e
 
   bang_long : (v : Result BangType Error) (bs : List ℕ) (t : Tail) (q : ℕ) → 2 ≤ length (bang_by v bs t q).bytes
   bang_long (Ok b) bs t q = scan_long (λ n. (kind_of b, n)) (bang b bs) (60 ∷ 33 ∷ []) bs t q
@@ -377,11 +307,11 @@ module _ {T : Type 0} (token : T) where
       let a = await p s.stream.items t in
       let b = await a.patience (drop 1 a.left) t in
       let stands = await-behind p s.stream.items t 33 bs begins.1 enough.patient in
-      let rust = bang_by (chain (first bs t) bang_new) bs t s.position in
+      let rust = bang_by (chain (first bs t) bang_of) bs t s.position in
       let room : length rust.bytes ≤ length buf = subst (λ l. length (rust_read_bang_element l t s.position).bytes ≤ length buf) begins.1 enough.room in
       subst (λ r. AnswersAs plain_turned bang_told s (rust_read_bang_element (bytes_of s.stream) t s.position) (bang_unless token s buf r p))
-      (sym (admits s.position (length buf) pending.Bang s.opening 2 enough.counts enough.size (ap (pends pending.Bang) opening) (omega (arith, bang_long (chain (first bs t) bang_new) bs t s.position))))
+      (sym (admits s.position (length buf) pending.Bang s.opening 2 enough.counts enough.size (ap (pends pending.Bang) opening) (omega (arith, bang_long (chain (first bs t) bang_of) bs t s.position))))
       (subst (λ l. AnswersAs plain_turned bang_told s (rust_read_bang_element l t s.position) (bang_first token s buf a.first a.left a.patience)) (sym begins.1)
       (subst (λ r. AnswersAs plain_turned bang_told s rust (bang_first token s buf r a.left a.patience)) (sym stands.0)
-      (subst (λ r. AnswersAs plain_turned bang_told s rust (bang_behind token s buf r b.left b.patience)) (sym stands.1.first_is)
-      (bang_behind_as s buf b.left b.patience bs stands.1.left stands.1.patient (omega (arith, ap length begins.1)) (first bs t) room))))
+      (subst (λ r. AnswersAs plain_turned bang_told s rust (bang_named token s buf (chain r bang_of) b.left b.patience)) (sym stands.1.first_is)
+      (bang_named_as s buf b.left b.patience bs stands.1.left stands.1.patient (omega (arith, ap length begins.1)) (chain (first bs t) bang_of) room))))

@@ -1,5 +1,5 @@
 -- Where text and references end, by the first place of a byte. Assumes nothing.
-use Rattle.std.proofs.Common.{◌≡◌, ℕ, zero, suc, ◌<◌, Bool, true, false, cond, ◌||◌, eqb, List, [], ◌∷◌, length, get_or, Some, None, Option, refl, ap, ◌∙◌, arith}
+use Rattle.std.proofs.Common.{◌≡◌, ℕ, suc, ◌<◌, Bool, true, false, cond, ◌||◌, eqb, List, [], ◌∷◌, length, get_or, Some, None, Option, refl, ap, ◌∙◌, arith}
 use Rattle.std.specs.Option.{option_map}
 use Rattle.model.specs.Cut.{Cut, before, through, nowhere, behind_one, behind, text_cut, name_cut}
 use Rattle.model.specs.declared.ending.TextEnd.{TextEnd}
@@ -9,11 +9,11 @@ use Rattle.model.specs.declared.ending.RefEnd.TheVariants as ref
 use Rattle.quick.specs.QuickXml.{place}
 
 mapped_suc : (o : Option ℕ) (i : ℕ) → option_map suc o ≡ Some i → (j : ℕ) × (o ≡ Some j) × (i ≡ suc j)
-mapped_suc None i e = let z : ◌≡◌ {A = ℕ} 0 1 = cc in absurd (omega arith)
+mapped_suc None i e = cc
 mapped_suc (Some j) i e = (j, refl, cc)
 
 pub place_inside : (sought : ℕ → Bool) (bs : List ℕ) (i : ℕ) → place sought bs ≡ Some i → i < length bs
-place_inside sought [] i e = let z : ◌≡◌ {A = ℕ} 0 1 = cc in absurd (omega arith)
+place_inside sought [] i e = cc
 place_inside sought (b ∷ bs) i e = go (λ j. place_inside sought bs j) (sought b) e
   where
     go : ((j : ℕ) → place sought bs ≡ Some j → j < length bs) → (v : Bool) → cond v (Some 0) (option_map suc (place sought bs)) ≡ Some i → i < length (b ∷ bs)
@@ -35,14 +35,6 @@ module _ {E : Type 0} (sought : ℕ → Bool) (at : ℕ → Cut E) (due : List �
       go true o = refl
       go false None = refl
       go false (Some i) = refl
-
-pub behind-before : {E : Type 0} (i : ℕ) (e : E) → behind i (before 0 e) ≡ before i e
-behind-before zero e = refl
-behind-before (suc i) e = ap behind_one (behind-before i e)
-
-pub behind_through : {E : Type 0} (i : ℕ) (e : E) → behind i (through 0 e) ≡ through i e
-behind_through zero e = refl
-behind_through (suc i) e = ap behind_one (behind_through i e)
 
 abbrev pub text_sought : ℕ → Bool
 text_sought b = eqb b 60 || eqb b 38

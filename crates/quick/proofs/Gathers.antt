@@ -1,13 +1,12 @@
 -- What is gathered and awaited with room and patience enough. Assumes nothing.
-use Rattle.std.proofs.Common.{◌≡◌, ℕ, zero, suc, ◌+◌, ◌<◌, ◌≤◌, true, ltb, List, [], ◌∷◌, ◌++◌, length, take, drop, Some, Ok, sym, refl, ap, ◌∙◌, subst, append_assoc, append-nil, arith, length-append, lt-ltb}
-use Rattle.source.specs.Stream.{Item, byte, wait, Tail, end, fault, bytes_in}
+use Rattle.std.proofs.Common.{◌≡◌, ℕ, zero, suc, ◌+◌, ◌<◌, ◌≤◌, true, ltb, List, [], ◌∷◌, ◌++◌, length, take, drop, Some, Ok, Err, Result, sym, refl, ap, ◌∙◌, subst, append_assoc, append-nil, arith, length-append, lt-ltb}
+use Rattle.source.specs.Stream.{Item, byte, wait, Tail, end, fault, bytes_in, waits_in}
 use Rattle.model.specs.Cut.{Cut, before, through, nowhere}
 use Rattle.model.specs.Gather.{Gathered, next, on_byte, gather}
 use Rattle.model.specs.Peek.{Awaited, await}
-use Rattle.model.specs.declared.ending.Ending.{Ending}
-use Rattle.model.specs.declared.ending.Ending.TheVariants.{Ended, Fault}
+use Rattle.errors.specs.declared.Error.{Error}
+use Rattle.errors.specs.declared.Error.TheVariants.{Io}
 use Rattle.quick.specs.QuickXml.{first}
-use Rattle.quick.specs.Answers.{waits}
 
 module _ {E : Type 0} where
   -- how many bytes a cut takes
@@ -21,11 +20,11 @@ module _ {E : Type 0} where
   Inside (through k e) bs = k < length bs
   Inside (nowhere due) bs = Unit {0}
 
-  abbrev pub cut_ending : Cut E → List ℕ → Tail → Ending E
-  cut_ending (before k e) content t = Ended e
-  cut_ending (through k e) content t = Ended e
-  cut_ending (nowhere due) content end = Ended (due content)
-  cut_ending (nowhere due) content (fault f) = Fault f
+  abbrev pub cut_ending : Cut E → List ℕ → Tail → Result E Error
+  cut_ending (before k e) content t = Ok e
+  cut_ending (through k e) content t = Ok e
+  cut_ending (nowhere due) content end = Ok (due content)
+  cut_ending (nowhere due) content (fault f) = Err (Io f)
 
   -- the bytes behind `so_far` through the cut
   abbrev pub piece : Cut E → List ℕ → List ℕ → List ℕ
@@ -66,7 +65,7 @@ module _ {E : Type 0} where
         fits (nowhere due) (omega arith) (more so_far b (bytes_in is) t g (nowhere due) (nowhere due) (length (bytes_in is)) refl refl (λ _. refl) (rest tt (simp length-append (omega arith))))
 
   gather_cuts : (c : Cut E) (size : ℕ) (so_far : List ℕ) (p : ℕ) (is : List Item) (t : Tail)
-      → Inside c (bytes_in is) → waits is ≤ p → length so_far + cut_length c (bytes_in is) ≤ size → CutOff c so_far (bytes_in is) t (gather c size so_far p is t)
+      → Inside c (bytes_in is) → waits_in is ≤ p → length so_far + cut_length c (bytes_in is) ≤ size → CutOff c so_far (bytes_in is) t (gather c size so_far p is t)
   gather_cuts c size so_far p (byte b ∷ is) t h patient room =
       on_byte_cuts so_far b is t size (gather (next c) size (so_far ++ b ∷ []) p is t) c h room (λ i r. gather_cuts (next c) size (so_far ++ b ∷ []) p is t i patient r)
   gather_cuts c size so_far zero (wait ∷ is) t h patient room = absurd (omega arith)
@@ -74,23 +73,23 @@ module _ {E : Type 0} where
   gather_cuts (before k e) size so_far p [] t h patient room = absurd (omega arith)
   gather_cuts (through k e) size so_far p [] t h patient room = absurd (omega arith)
   gather_cuts (nowhere due) size so_far p [] end h patient room =
-      record { bytes = sym (append-nil so_far); left = refl; ending = ap (λ w. Ended (due w)) (sym (append-nil so_far)) }
+      record { bytes = sym (append-nil so_far); left = refl; ending = ap (λ w. Ok (due w)) (sym (append-nil so_far)) }
   gather_cuts (nowhere due) size so_far p [] (fault f) h patient room = record { bytes = sym (append-nil so_far); left = refl; ending = refl }
 
   pub gather_cuts_in : (c : Cut E) (size : ℕ) (so_far : List ℕ) (p : ℕ) (is : List Item) (bs : List ℕ) (t : Tail) → bytes_in is ≡ bs
-      → Inside c bs → waits is ≤ p → length so_far + cut_length c bs ≤ size → CutOff c so_far bs t (gather c size so_far p is t)
+      → Inside c bs → waits_in is ≤ p → length so_far + cut_length c bs ≤ size → CutOff c so_far bs t (gather c size so_far p is t)
   gather_cuts_in c size so_far p is bs t same =
-      subst (λ l. Inside c l → waits is ≤ p → length so_far + cut_length c l ≤ size → CutOff c so_far l t (gather c size so_far p is t)) same (gather_cuts c size so_far p is t)
+      subst (λ l. Inside c l → waits_in is ≤ p → length so_far + cut_length c l ≤ size → CutOff c so_far l t (gather c size so_far p is t)) same (gather_cuts c size so_far p is t)
 
 -- what stands first, and what stands behind it
 pub record Stood (bs : List ℕ) (t : Tail) (a : Awaited) : Type 0 where
   pub first_is : a.first ≡ first bs t
   pub left : bytes_in a.left ≡ bs
-  pub patient : waits a.left ≤ a.patience
+  pub patient : waits_in a.left ≤ a.patience
   pub behind : bytes_in (drop 1 a.left) ≡ drop 1 bs
-  pub still_patient : waits (drop 1 a.left) ≤ a.patience
+  pub still_patient : waits_in (drop 1 a.left) ≤ a.patience
 
-await_stands : (p : ℕ) (is : List Item) (t : Tail) → waits is ≤ p → Stood (bytes_in is) t (await p is t)
+await_stands : (p : ℕ) (is : List Item) (t : Tail) → waits_in is ≤ p → Stood (bytes_in is) t (await p is t)
 await_stands p [] end h = record { first_is = refl; left = refl; patient = h; behind = refl; still_patient = h }
 await_stands p [] (fault f) h = record { first_is = refl; left = refl; patient = h; behind = refl; still_patient = h }
 await_stands zero (wait ∷ is) t h = absurd (omega arith)
@@ -98,7 +97,7 @@ await_stands (suc p) (wait ∷ is) t h = await_stands p is t (omega arith)
 await_stands p (byte b ∷ is) t h = record { first_is = refl; left = refl; patient = h; behind = refl; still_patient = h }
 
 -- a byte stands first, and is dropped
-pub await-behind : (p : ℕ) (is : List Item) (t : Tail) (b : ℕ) (bs : List ℕ) → bytes_in is ≡ b ∷ bs → waits is ≤ p
+pub await-behind : (p : ℕ) (is : List Item) (t : Tail) (b : ℕ) (bs : List ℕ) → bytes_in is ≡ b ∷ bs → waits_in is ≤ p
     → ((await p is t).first ≡ Ok (Some b)) × Stood bs t (await (await p is t).patience (drop 1 (await p is t).left) t)
 await-behind p is t b bs same patient =
     let a = await p is t in

@@ -1,6 +1,6 @@
 -- That a call answers as quick-xml's does.
-use Rattle.std.specs.Prelude.{◌≡◌, ℕ, suc, ◌+◌, ◌^◌, ◌<◌, ◌≤◌, true, ◌⊎◌, List, [], ◌∷◌, length, take, is_some, Some, None, Ok, Err, Option, Result}
-use Rattle.source.specs.Stream.{Item, byte, wait, Tail, bytes_of}
+use Rattle.std.specs.Prelude.{◌≡◌, ℕ, ◌+◌, ◌^◌, ◌<◌, ◌≤◌, true, ◌⊎◌, List, [], ◌∷◌, length, take, is_some, Some, None, Ok, Err, Option, Result}
+use Rattle.source.specs.Stream.{Tail, bytes_of, waits_in}
 use Rattle.parser.specs.Scan.{Meaning, Prefix}
 use Rattle.model.specs.Told.{text_told, ref_told, peek_told, with_told, bang_told}
 use Rattle.model.specs.Call.{State, Outcome, reads, text_reading, ref_reading, with_reading}
@@ -8,8 +8,6 @@ use Rattle.model.specs.Peek.{peeks}
 use Rattle.model.specs.Bang.{bangs}
 use Rattle.model.specs.declared.answer.ReadText.{ReadText}
 use Rattle.model.specs.declared.answer.ReadRef.{ReadRef}
-use Rattle.model.specs.declared.answer.Peeked.{Peeked}
-use Rattle.model.specs.declared.answer.Peeked.TheVariants.{Byte, Nothing}
 use Rattle.model.specs.declared.answer.BangKind.{BangKind}
 use Rattle.model.specs.declared.answer.Refusal.{Refusal}
 use Rattle.model.specs.declared.answer.Refused.{Refused}
@@ -29,22 +27,17 @@ module _ {T : Type 0} where
   plain_turned (Err (Kept e token)) = Err e
   plain_turned (Err (Spent r)) = Err r.error
 
-  abbrev pub plain_peeked : Result (Peeked T) Refusal → Result (Option ℕ) Error
-  plain_peeked (Ok (Byte b token)) = Ok (Some b)
-  plain_peeked (Ok Nothing) = Ok None
+  abbrev pub plain_peeked : Result (Option (ℕ × T)) Refusal → Result (Option ℕ) Error
+  plain_peeked (Ok (Some (b, token))) = Ok (Some b)
+  plain_peeked (Ok None) = Ok None
   plain_peeked (Err r) = Err r.error
-
-abbrev pub waits : List Item → ℕ
-waits [] = 0
-waits (byte b ∷ is) = waits is
-waits (wait ∷ is) = suc (waits is)
 
 -- what quick-xml does not run out of: numbers for the position, room for what is appended, and patience
 pub record Enough (s : State) (buf : List ℕ) (patience : ℕ) (appended : List ℕ) : Type 0 where
   pub counts : s.position < 2 ^ 63
   pub size : length buf ≤ 16777216
   pub room : length appended ≤ length buf
-  pub patient : waits s.stream.items ≤ patience
+  pub patient : waits_in s.stream.items ≤ patience
 
 -- the outcome of a call from the state s is what quick-xml returned
 pub record AnswersAs {A B : Type 0} (plain : B → Result A Error) (told : B → Told) (s : State) (r : Returned A) (o : Outcome B) : Type 0 where
@@ -78,7 +71,7 @@ AsQuickXmlRef s buf patience o =
     s.opening ≡ None → 0 < length buf → Begins s 38 ⊎ (bytes_of s.stream ≡ []) → AsQuickXml plain_answer ref_told rust_read_ref s buf patience o
 
 module _ {T : Type 0} where
-  abbrev pub AsQuickXmlPeek : State → ℕ → Outcome (Result (Peeked T) Refusal) → Type 0
+  abbrev pub AsQuickXmlPeek : State → ℕ → Outcome (Result (Option (ℕ × T)) Refusal) → Type 0
   AsQuickXmlPeek s patience o = s.opening ≡ None → Begins s 60 → AsQuickXml plain_peeked peek_told rust_peek_one s [] patience o
 
   abbrev pub AsQuickXmlWith : Meaning → State → List ℕ → ℕ → Outcome (Result ℕ (Refused T)) → Type 0

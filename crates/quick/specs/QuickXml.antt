@@ -1,14 +1,13 @@
 -- What quick-xml's five calls on a BufRead return: by all bytes that it has still to give, what stands behind them, and the position.
-use Rattle.std.specs.Prelude.{ℕ, zero, suc, ◌+◌, Bool, cond, ◌||◌, List, [], ◌∷◌, ◌++◌, length, take, drop, Some, None, Ok, Err, Option, Result, ◌==◌, slice_index}
-use Rattle.std.specs.Option.{option_map, ok_or}
+use Rattle.std.specs.Prelude.{ℕ, zero, suc, ◌+◌, Bool, if◌then◌else◌, ◌||◌, List, [], ◌∷◌, ◌++◌, length, take, drop, Some, None, Ok, Err, Option, Result, ◌==◌, slice_index}
+use Rattle.std.specs.Option.{option_map}
 use Rattle.source.specs.Stream.{Tail, end, fault}
 use Rattle.parser.specs.Scan.{Verdict, stop, unclosed, Meaning}
-use Rattle.bang.specs.Bang.{bang, bang_type}
+use Rattle.bang.specs.Bang.{bang}
 use Rattle.bang.specs.declared.bang.BangType.{BangType}
-use Rattle.parser.specs.declared.errors.SyntaxError.TheVariants.{InvalidBangMarkup}
 use Rattle.utf8.specs.Utf8.{judged}
 use Rattle.model.specs.Call.{chain, checked}
-use Rattle.model.specs.Bang.{kind_of}
+use Rattle.model.specs.Bang.{kind_of, bang_of}
 use Rattle.model.specs.declared.answer.ReadText.{ReadText}
 use Rattle.model.specs.declared.answer.ReadText.TheVariants as text
 use Rattle.model.specs.declared.answer.ReadRef.{ReadRef}
@@ -32,7 +31,7 @@ returned a bs p l = record { answer = a; bytes = bs; position = p; left = l }
 -- memchr: the first place of a byte that is sought
 abbrev pub place : (ℕ → Bool) → List ℕ → Option ℕ
 place sought [] = None
-place sought (b ∷ bs) = cond (sought b) (Some 0) (option_map suc (place sought bs))
+place sought (b ∷ bs) = if sought b then Some 0 else option_map suc (place sought bs)
 
 -- from_utf8 of what was appended
 abbrev pub text_of : {A : Type 0} → (ℕ → A) → List ℕ → Result A Error
@@ -54,8 +53,8 @@ appending pushed n bs p answer = returned (answer (pushed ++ take n bs)) (pushed
 
 -- read_text, by the first place of `<` (60) or `&` (38)
 abbrev pub text_by : Option ℕ → List ℕ → Tail → ℕ → Returned ReadText
-text_by (Some zero) bs t p = returned (Ok (cond (slice_index bs 0 == 60) text.Markup text.Ref)) [] p bs
-text_by (Some (suc i)) bs t p = appending [] (suc i) bs p (text_of (cond (slice_index bs (suc i) == 60) text.UpToMarkup text.UpToRef))
+text_by (Some zero) bs t p = returned (Ok (if slice_index bs 0 == 60 then text.Markup else text.Ref)) [] p bs
+text_by (Some (suc i)) bs t p = appending [] (suc i) bs p (text_of (if slice_index bs (suc i) == 60 then text.UpToMarkup else text.UpToRef))
 text_by None bs t p = appending [] (length bs) bs p (λ w. at_tail t (text_of text.UpToEof w))
 
 abbrev pub rust_read_text : List ℕ → Tail → ℕ → Returned ReadText
@@ -64,8 +63,8 @@ rust_read_text bs t p = text_by (place (λ b. (b == 60) || b == 38) bs) bs t p
 -- read_ref behind its `&`, by the first place of `;` (59), `&` or `<`
 abbrev pub ref_by : Option ℕ → List ℕ → Tail → ℕ → Returned ReadRef
 ref_by (Some i) bs t p =
-    cond (slice_index bs i == 59) (appending (38 ∷ []) (suc i) bs p (text_of ref.Ref))
-    (appending (38 ∷ []) i bs p (text_of (cond (slice_index bs i == 38) ref.UpToRef ref.UpToMarkup)))
+    if slice_index bs i == 59 then appending (38 ∷ []) (suc i) bs p (text_of ref.Ref)
+    else appending (38 ∷ []) i bs p (text_of (if slice_index bs i == 38 then ref.UpToRef else ref.UpToMarkup))
 ref_by None bs t p = appending (38 ∷ []) (length bs) bs p (λ w. at_tail t (text_of ref.UpToEof w))
 
 -- called where the first byte is `&`, or there is none
@@ -85,11 +84,6 @@ scan_by (unclosed due) pushed answer bs t p = appending pushed (length bs) bs p 
 abbrev pub rust_read_with : Meaning → List ℕ → Tail → ℕ → Returned ℕ
 rust_read_with m bs t p = scan_by (m bs) (60 ∷ []) (λ n. n) bs t p
 
--- BangType::new
-abbrev pub bang_new : Option ℕ → Result BangType Error
-bang_new None = Err (Syntax InvalidBangMarkup)
-bang_new (Some b) = ok_or (bang_type b) (Syntax InvalidBangMarkup)
-
 -- read_bang_element behind its `!` (33); where there is no kind the position stays
 abbrev pub bang_by : Result BangType Error → List ℕ → Tail → ℕ → Returned (BangKind × ℕ)
 bang_by (Ok b) bs t p = scan_by (bang b bs) (60 ∷ 33 ∷ []) (λ n. (kind_of b, n)) bs t p
@@ -97,4 +91,4 @@ bang_by (Err e) bs t p = returned (Err e) (60 ∷ 33 ∷ []) p bs
 
 -- called where the first byte is `!`, which is consumed
 abbrev pub rust_read_bang_element : List ℕ → Tail → ℕ → Returned (BangKind × ℕ)
-rust_read_bang_element bs t p = bang_by (chain (first (drop 1 bs) t) bang_new) (drop 1 bs) t p
+rust_read_bang_element bs t p = bang_by (chain (first (drop 1 bs) t) bang_of) (drop 1 bs) t p

@@ -1,54 +1,24 @@
 -- From a gathering to the reader and the buffer that it leaves.
-use Rattle.std.proofs.Common.{◌≡◌, ℕ, ◌+◌, ◌-◌, ◌≤◌, List, [], ◌∷◌, ◌++◌, length, take, drop, set, Some, None, Ok, Err, Option, Result, sym, refl, ap, ◌∙◌, arith, length-append, length-drop, take-append-drop}
-use Rattle.std.proofs.lemmas.List.{length-take-le, take_at, drop_at, drop-drop}
+use Rattle.std.proofs.Common.{◌≡◌, ℕ, ◌+◌, ◌-◌, ◌≤◌, List, [], ◌∷◌, ◌++◌, length, take, drop, set, Some, None, Ok, Err, Option, Result, MatchResult, IsErrAnd, sym, subst, refl, ap, ◌∙◌, arith, length-append, length-drop}
+use Rattle.std.proofs.lemmas.List.{take_at, drop_at, drop-drop}
 use Rattle.source.specs.Stream.{Item, Stream, bytes_in, bytes_of}
 use Rattle.model.specs.Cut.{Cut, scan_cut}
-use Rattle.model.specs.Gather.{Gathered, gathered, gather}
-use Rattle.model.specs.Call.{State, state, left_with, Outcome, outcome, over, admitted, refusal, finished, chain, with_piece, spending, Reading, reads, unless_early}
+use Rattle.model.specs.Gather.{Gathered, gather}
+use Rattle.model.specs.Call.{State, state, left_with, Outcome, outcome, over, admitted, refusal, chain, with_piece, spending}
 use Rattle.errors.specs.declared.Error.{Error}
-use Rattle.model.specs.declared.ending.Ending.{Ending}
-use Rattle.bang.specs.Bang.{bang, bang_type}
+use Rattle.bang.specs.Bang.{bang}
 use Rattle.bang.specs.declared.bang.BangType.{BangType}
 use Rattle.parser.specs.declared.errors.SyntaxError.{SyntaxError}
 use Rattle.model.specs.Peek.{Awaited, await}
-use Rattle.model.specs.Bang.{kind_of, with_kind, bang_prefix, opening_prefix, bang_stuck, bang_piece, bang_named, bang_behind, bang_after, bang_first, bang_from, bang_unless, bangs}
+use Rattle.model.specs.Bang.{kind_of, bang_of, with_kind, bang_prefix, opening_prefix, bang_stuck, bang_piece, bang_named, bang_after, bang_first, bang_from, bang_unless, bangs}
 use Rattle.model.specs.declared.answer.BangKind.{BangKind}
-use Rattle.model.specs.declared.answer.Refusal.{Refusal}
 use Rattle.model.specs.declared.answer.Refused.{Refused}
 use Rattle.model.specs.declared.answer.Refused.TheVariants.{Spent}
 use Rattle.model.specs.declared.ending.Pending.TheVariants.{Bang}
-use Rattle.gather.specs.Named.{known, named_by, named}
+use Rattle.gather.specs.Named.{named}
 use Rattle.reader.specs.Peeked.{peeked_taken_by, peeked_taken, left_behind_by, left_behind}
-use Rattle.reader.specs.State.{with_gathered, gathers, Leaves}
-
--- a buffer is its front over what stood behind that before
-pub front-over : (w : ℕ) (buf buf' : List ℕ) → w ≤ length buf' → drop w buf' ≡ drop w buf → buf' ≡ over (take w buf') buf
-front-over w buf buf' h rest =
-    sym (take-append-drop w buf') ∙ ap (λ x. take w buf' ++ x) rest ∙ ap (λ n. take w buf' ++ drop n buf) (sym (length-take-le w buf' h))
-
-module _ {E : Type 0} (s : State) (buf buf' : List ℕ) (w : ℕ) (e : Ending E) (stream : Stream) where
-  pub gathered-piece : stream.tail ≡ s.stream.tail → w ≤ length buf → length buf' ≡ length buf → drop w buf' ≡ drop w buf
-      → (g : Gathered E) → g ≡ gathered (take w buf') stream.items e
-      → outcome (w, e) (state stream (s.position + w) None) buf' ≡ with_gathered s buf g
-  gathered-piece tail fits long rest g h =
-      let short : w ≤ length buf' = omega arith in
-      let size : length (take w buf') ≡ w = length-take-le w buf' short in
-      ap (λ t. outcome (w, e) (state (record { items = stream.items; tail = t }) (s.position + w) None) buf') tail
-      ∙ ap (λ n. outcome (n, e) (left_with s stream.items (s.position + n) None) buf') (sym size)
-      ∙ ap (outcome (length (take w buf'), e) (left_with s stream.items (s.position + length (take w buf')) None)) (front-over w buf buf' short rest)
-      ∙ ap (with_gathered s buf) (sym h)
-
-  pub leaves : stream.tail ≡ s.stream.tail → w ≤ length buf → length buf' ≡ length buf → drop w buf' ≡ drop w buf
-      → (g : Gathered E) → g ≡ gathered (take w buf') stream.items e → Leaves s buf g w e (state stream (s.position + w) None) buf'
-  leaves tail fits long rest g h =
-      let all = gathered-piece tail fits long rest g h in
-      let same : w - 0 ≡ w = omega arith in
-      record {
-        front = ap (λ k. take k buf') same ∙ sym (ap (λ x. x.bytes) h);
-        ending = sym (ap (λ x. x.ending) h);
-        left = ap (λ o. o.after) all;
-        buffer = ap (λ o. o.buffer) all;
-      }
+use Rattle.laws.proofs.Gathers.{gather_grows}
+use Rattle.reader.specs.State.{gathers, Leaves}
 
 -- a prefix that was written before the gathering
 module _ {E : Type 0} (s : State) (buf pre : List ℕ) (cut : List ℕ → Cut E) (p : ℕ) (short : length pre ≤ length buf) where
@@ -62,17 +32,22 @@ module _ {E : Type 0} (s : State) (buf pre : List ℕ) (cut : List ℕ → Cut E
       ∙ ap (drop (n - length pre)) (drop_at pre (drop (length pre) buf) (length pre) refl)
       ∙ drop-drop (n - length pre) (length pre) buf ∙ ap (λ i. drop i buf) k
 
-  pub prefixed : (w : ℕ) (e : Ending E) (s' : State) (buf' : List ℕ) → length pre ≤ w
-      → outcome (w, e) s' buf' ≡ gathers s (over pre buf) cut (take (length pre) (over pre buf)) p
-      → outcome (w, e) s' buf' ≡ gathers s buf cut pre p
-  prefixed w e s' buf' grows all =
-      let g = gather (cut (bytes_of s.stream)) (length buf) pre p s.stream.items s.stream.tail in
-      let all' : outcome (w, e) s' buf' ≡ with_gathered s (over pre buf) g =
-      all ∙ ap (λ xs. gathers s (over pre buf) cut xs p) (take_at pre (drop (length pre) buf) (length pre) refl)
-      ∙ ap (λ n. with_gathered s (over pre buf) (gather (cut (bytes_of s.stream)) n pre p s.stream.items s.stream.tail)) over-length in
-      let long : w ≡ length g.bytes = ap (λ o. o.answer.0) all' in
-      all' ∙ ap (λ xs. outcome (length g.bytes, g.ending) (left_with s g.left (s.position + length g.bytes) None) (g.bytes ++ xs))
-      (over-drop (length g.bytes) (omega arith))
+  pub prefixed : {w : ℕ} {e : Result E Error} {s' : State} {buf' : List ℕ}
+      → Leaves s (over pre buf) (gathers s (over pre buf) cut (take (length pre) (over pre buf)) p) w e s' buf'
+      → Leaves s buf (gathers s buf cut pre p) w e s' buf'
+  prefixed {w} {e} {s'} {buf'} all =
+      let g = gathers s buf cut pre p in
+      let same : gathers s (over pre buf) cut (take (length pre) (over pre buf)) p ≡ g =
+      ap (λ xs. gathers s (over pre buf) cut xs p) (take_at pre (drop (length pre) buf) (length pre) refl)
+      ∙ ap (λ n. gather (cut (bytes_of s.stream)) n pre p s.stream.items s.stream.tail) over-length in
+      let l = subst (λ x. Leaves s (over pre buf) x w e s' buf') same all in
+      record {
+        front = l.front;
+        ending = l.ending;
+        left = l.left;
+        buffer = l.buffer ∙ ap (λ xs. g.bytes ++ xs)
+            (over-drop (length g.bytes) (gather_grows (cut (bytes_of s.stream)) (length buf) pre p s.stream.items s.stream.tail));
+      }
 
 -- what is written before the source is touched
 pub opening_set : (buf : List ℕ) → 1 ≤ length buf → set buf 0 60 ≡ over opening_prefix buf
@@ -84,31 +59,25 @@ bang-set [] h = absurd (omega arith)
 bang-set (a ∷ []) h = absurd (omega arith)
 bang-set (a ∷ b ∷ bs) h = refl
 
--- a call that gathers one piece
-module _ {E A : Type 0} (call : Reading E A) (s : State) (buf : List ℕ) (p : ℕ) where
-  pub turned_away : (e : Error) → Err e ≡ admitted s.position (length buf) call.wanted s.opening call.least
-      → outcome (call.early e) s buf ≡ reads call s buf p
-  turned_away e h = ap (unless_early call s buf p) h
+-- an answer that is made of what a gathering leaves
+pub answered : {E A : Type 0} {s : State} {buf : List ℕ} {g : Gathered E} {w : ℕ} {e : Result E Error} {s' : State} {buf' : List ℕ} → Leaves s buf g w e s' buf'
+    → (answer : List ℕ → Result E Error → A) (a : A) → a ≡ answer (take w buf') e
+    → outcome a s' buf' ≡ outcome (answer g.bytes g.ending) (left_with s g.left (s.position + length g.bytes) None) (over g.bytes buf)
+answered {s} {buf} {g} {e = e} {s' = s'} {buf' = buf'} l answer a h =
+    let same = h ∙ ap (λ bs. answer bs e) l.front ∙ ap (answer g.bytes) l.ending in
+    ap (λ x. outcome x s' buf') same ∙ ap (λ x. outcome (answer g.bytes g.ending) x buf') l.left
+    ∙ ap (outcome (answer g.bytes g.ending) (left_with s g.left (s.position + length g.bytes) None)) l.buffer
 
-  -- the answer to a gathering whose bytes stand at the buffer's front
-  abbrev answered : Outcome (ℕ × Ending E) → Outcome A
-  answered o = outcome (call.answer (take o.answer.0 o.buffer) o.answer.1) o.after o.buffer
-
-  pub read_on : Ok tt ≡ admitted s.position (length buf) call.wanted s.opening call.least
-      → (w : ℕ) (e : Ending E) (s' : State) (buf' : List ℕ) → outcome (w, e) s' buf' ≡ gathers s buf call.cut call.prefix p
-      → (a : A) → a ≡ call.answer (take (w - 0) buf') e → outcome a s' buf' ≡ reads call s buf p
-  read_on free w e s' buf' all a h =
-      let g = gather (call.cut (bytes_of s.stream)) (length buf) call.prefix p s.stream.items s.stream.tail in
-      let same : w - 0 ≡ w = omega arith in
-      ap (λ x. outcome x s' buf') (h ∙ ap (λ n. call.answer (take n buf') e) same)
-      ∙ ap answered all
-      ∙ ap (λ bs. outcome (call.answer bs g.ending) (left_with s g.left (s.position + length g.bytes) None) (over g.bytes buf))
-      (take_at g.bytes (drop (length g.bytes) buf) (length g.bytes) refl)
-      ∙ ap (unless_early call s buf p) free
+-- the error that `map_err` makes of another
+pub map_err-exit : {A E D : Type 0} (Q : E → D → Type 0) (n : Result A E) (m : Result A D)
+    → MatchResult n (λ x. m ≡ Ok x) (λ e. IsErrAnd m (Q e)) → (d : D) → m ≡ Err d → (e : E) × (Err e ≡ n) × Q e d
+map_err-exit Q (Ok x) m h d w = absurd (cc (sym h, w))
+map_err-exit Q (Err e) (Ok x) h d w = absurd h
+map_err-exit Q (Err e) (Err b) h d w = let same : b ≡ d = cc in (e, refl, subst (Q e) same h)
 
 -- what read_bang_element answers to a gathering
-abbrev pub bang_answered : {T : Type 0} → BangKind → List ℕ → Ending (Result (Unit {0}) SyntaxError) → Result (BangKind × ℕ) (Refused T)
-bang_answered k bs e = spending (length bs) (with_kind k (chain (finished e) (with_piece bs)))
+abbrev pub bang_answered : {T : Type 0} → BangKind → List ℕ → Result (Result (Unit {0}) SyntaxError) Error → Result (BangKind × ℕ) (Refused T)
+bang_answered k bs e = spending (length bs) (with_kind k (chain e (with_piece bs)))
 
 -- read_bang_element
 module _ {T : Type 0} (token : T) (s : State) (buf : List ℕ) (p : ℕ) (free : Ok tt ≡ admitted s.position (length buf) Bang s.opening 2) where
@@ -131,26 +100,21 @@ module _ {T : Type 0} (token : T) (s : State) (buf : List ℕ) (p : ℕ) (free :
   on_named (Err e) is = bang_stuck token s buf bang_prefix 1 e is
 
   named-from : (a : Awaited) → bang_after token s buf a ≡ on_named (named a) a.left
-  named-from a = go a.first
+  named-from a = go (chain a.first bang_of)
     where
-      by_type : (o : Option BangType) → bang_named token s buf o a.left a.patience ≡ on_named (known o a.patience) a.left
-      by_type (Some b) = refl
-      by_type None = refl
-
-      go : (r : Result (Option ℕ) Error) → bang_behind token s buf r a.left a.patience ≡ on_named (named_by r a.patience) a.left
-      go (Ok (Some b)) = by_type (bang_type b)
-      go (Ok None) = refl
+      go : (r : Result BangType Error) → bang_named token s buf r a.left a.patience ≡ on_named (chain r (λ b. Ok (b, a.patience))) a.left
+      go (Ok b) = refl
       go (Err e) = refl
 
   bangs-from : bangs token s buf p ≡ on_taken (peeked_taken (await p s.stream.items s.stream.tail)) (left_behind (await p s.stream.items s.stream.tail))
   bangs-from = sym (ap (λ a. bang_unless token s buf a p) free) ∙ taken-from (await p s.stream.items s.stream.tail)
 
   -- the byte that was peeked is not there
-  pub bang_none : (e : Error) → Err e ≡ peeked_taken (await p s.stream.items s.stream.tail) → (r : Refusal) → r ≡ refusal e 1 0
+  pub bang_none : (e : Error) → Err e ≡ peeked_taken (await p s.stream.items s.stream.tail) → (r : Refused T) → r ≡ Spent (refusal e 1 0)
       → (s' : State) → s' ≡ left_with s (left_behind (await p s.stream.items s.stream.tail)) s.position None
-      → (buf' : List ℕ) → buf' ≡ over opening_prefix buf → outcome (Err (Spent r)) s' buf' ≡ bangs token s buf p
+      → (buf' : List ℕ) → buf' ≡ over opening_prefix buf → outcome (Err r) s' buf' ≡ bangs token s buf p
   bang_none e h r same s' there buf' written =
-      ap (λ x. outcome (Err (Spent x)) s' buf') same ∙ ap (λ x. outcome (Err (Spent (refusal e 1 0))) x buf') there
+      ap (λ x. outcome (Err x) s' buf') same ∙ ap (λ x. outcome (Err (Spent (refusal e 1 0))) x buf') there
       ∙ ap (outcome (Err (Spent (refusal e 1 0))) (left_with s (left_behind (await p s.stream.items s.stream.tail)) s.position None)) written
       ∙ ap (λ n. on_taken n (left_behind (await p s.stream.items s.stream.tail))) h
       ∙ sym bangs-from
@@ -172,28 +136,21 @@ module _ {T : Type 0} (token : T) (s : State) (buf : List ℕ) (p : ℕ) (free :
         ∙ ap (λ r. on_taken r (left_behind (await p s.stream.items s.stream.tail))) taken
         ∙ sym bangs-from
 
-    pub bang-refused : (e : Error) → Err e ≡ named (await q one.items one.tail) → (r : Refusal) → r ≡ refusal e 2 1
+    pub bang-refused : (e : Error) → Err e ≡ named (await q one.items one.tail) → (r : Refused T) → r ≡ Spent (refusal e 2 1)
         → (s' : State) → s' ≡ state two s.position None
-        → (buf' : List ℕ) → buf' ≡ over bang_prefix buf → outcome (Err (Spent r)) s' buf' ≡ bangs token s buf p
+        → (buf' : List ℕ) → buf' ≡ over bang_prefix buf → outcome (Err r) s' buf' ≡ bangs token s buf p
     bang-refused e h r same s' there buf' written =
-        ap (λ x. outcome (Err (Spent x)) s' buf') same ∙ ap (λ x. outcome (Err (Spent (refusal e 2 1))) x buf') there
+        ap (λ x. outcome (Err x) s' buf') same ∙ ap (λ x. outcome (Err (Spent (refusal e 2 1))) x buf') there
         ∙ ap (λ x. outcome (Err (Spent (refusal e 2 1))) (state x s.position None) buf') middle
         ∙ ap (outcome (Err (Spent (refusal e 2 1))) (left_with s (await q one.items one.tail).left s.position None)) written
         ∙ from_named (Err e) h
 
     pub bang_read : (b : BangType) (n : ℕ) → Ok (b, n) ≡ named (await q one.items one.tail)
-        → (w : ℕ) (e : Ending (Result (Unit {0}) SyntaxError)) (s' : State) (buf' : List ℕ)
-        → outcome (w, e) s' buf' ≡ gathers (state two s.position None) buf (scan_cut (bang b)) bang_prefix n
-        → (r : Result (BangKind × ℕ) (Refused T)) → r ≡ bang_answered (kind_of b) (take (w - 0) buf') e
+        → {w : ℕ} {e : Result (Result (Unit {0}) SyntaxError) Error} {s' : State} {buf' : List ℕ}
+        → (let at = state two s.position None in Leaves at buf (gathers at buf (scan_cut (bang b)) bang_prefix n) w e s' buf')
+        → (r : Result (BangKind × ℕ) (Refused T)) → r ≡ bang_answered (kind_of b) (take w buf') e
         → outcome r s' buf' ≡ bangs token s buf p
-    bang_read b n h w e s' buf' all r same =
-        let is = (await q one.items one.tail).left in
-        let g = gather (scan_cut (bang b) (bytes_in is)) (length buf) bang_prefix n is s.stream.tail in
-        let minus : w - 0 ≡ w = omega arith in
-        let all' : outcome (w, e) s' buf' ≡ with_gathered (left_with s is s.position None) buf g =
-        all ∙ ap (λ x. gathers (state x s.position None) buf (scan_cut (bang b)) bang_prefix n) middle in
-        ap (λ x. outcome x s' buf') (same ∙ ap (λ k. bang_answered (kind_of b) (take k buf') e) minus)
-        ∙ ap (λ o. outcome (bang_answered (kind_of b) (take o.answer.0 o.buffer) o.answer.1) o.after o.buffer) all'
-        ∙ ap (λ bs. outcome (bang_answered (kind_of b) bs g.ending) (left_with s g.left (s.position + length g.bytes) None) (over g.bytes buf))
-        (take_at g.bytes (drop (length g.bytes) buf) (length g.bytes) refl)
+    bang_read b n h all r same =
+        answered all (bang_answered (kind_of b)) r same
+        ∙ ap (λ x. bang_piece token (state x s.position None) buf (kind_of b) (gathers (state x s.position None) buf (scan_cut (bang b)) bang_prefix n)) middle
         ∙ from_named (Ok (b, n)) h

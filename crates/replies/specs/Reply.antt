@@ -1,10 +1,8 @@
 -- What a reply tells, and which call follows it.
-use Rattle.std.specs.Prelude.{cond, Some, None, Ok, Err, Option, Result, ◌==◌}
+use Rattle.std.specs.Prelude.{ℕ, cond, Some, None, Ok, Err, Option, Result, ◌==◌}
 use Rattle.model.specs.Told as model
 use Rattle.model.specs.declared.answer.Answer.{Answer}
 use Rattle.model.specs.declared.answer.Answer.TheVariants as answer
-use Rattle.model.specs.declared.answer.Peeked.{Peeked}
-use Rattle.model.specs.declared.answer.Peeked.TheVariants.{Byte, Nothing}
 use Rattle.model.specs.declared.answer.ReadText.{ReadText}
 use Rattle.model.specs.declared.answer.ReadText.TheVariants as text
 use Rattle.model.specs.declared.answer.Refusal.{Refusal}
@@ -30,9 +28,9 @@ after_text (Ok (text.UpToEof w)) = cond (w == 0) None (Some call.Text)
 after_text (Err e) = None
 
 -- `!` is 33, `?` is 63
-abbrev pub after_peek : {T : Type 0} → Result (Peeked T) Refusal → Option Call
-after_peek (Ok (Byte b t)) = Some (call.Spend (cond (b == 33) Bang (cond (b == 63) Pi Elem)))
-after_peek (Ok Nothing) = None
+abbrev pub after_peek : {T : Type 0} → Result (Option (ℕ × T)) Refusal → Option Call
+after_peek (Ok (Some (b, t))) = Some (call.Spend (cond (b == 33) Bang (cond (b == 63) Pi Elem)))
+after_peek (Ok None) = None
 after_peek (Err e) = None
 
 -- a text after a whole piece

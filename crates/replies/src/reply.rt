@@ -4,8 +4,8 @@ ghost use Rattle.replies.specs.Reply.{reply_told, after_text, after_peek, after_
 
 use cases::{Call, Spending};
 use errors::Error;
-use model::{Answer, Peeked, ReadRef, ReadText, Refusal, Refused, Told};
-use piece::{Kind, Piece, next_told};
+use model::{Answer, ReadRef, ReadText, Refusal, Refused, Told};
+use piece::{Piece, next_told};
 use source::Fault;
 use std::fmt;
 
@@ -27,15 +27,14 @@ fn after_text(answer: &Result<ReadText, Refusal>) -> Option<Call>
     }
 }
 
-fn after_peek(answer: &Result<Peeked<()>, Refusal>) -> Option<Call>
+fn after_peek(answer: &Result<Option<(u8, ())>, Refusal>) -> Option<Call>
     ensures { result ≡ after_peek answer.now }
 {
     match answer {
-        Ok(Peeked::Byte(b'!', _)) => Some(Call::Spend(Spending::Bang)),
-        Ok(Peeked::Byte(b'?', _)) => Some(Call::Spend(Spending::Pi)),
-        Ok(Peeked::Byte(_, _)) => Some(Call::Spend(Spending::Elem)),
-        Ok(Peeked::Nothing) => None,
-        Err(_) => None,
+        Ok(Some((b'!', _))) => Some(Call::Spend(Spending::Bang)),
+        Ok(Some((b'?', _))) => Some(Call::Spend(Spending::Pi)),
+        Ok(Some(_)) => Some(Call::Spend(Spending::Elem)),
+        Ok(None) | Err(_) => None,
     }
 }
 
@@ -73,6 +72,7 @@ impl Reply {
     }
 }
 
+// As docs/REPLAY.md writes it: errors and answers are other crates' types, which print themselves in another form or not at all.
 fn show_error<W: fmt::Write>(error: &Error, f: &mut fmt::Formatter<W>) -> fmt::Result {
     match error {
         Error::Syntax(syntax) => write!(f, "Syntax:{syntax:?}"),
@@ -86,19 +86,6 @@ fn show_error<W: fmt::Write>(error: &Error, f: &mut fmt::Formatter<W>) -> fmt::R
             let number = other.number();
             write!(f, "No:{number}")
         }
-    }
-}
-
-fn piece_name(piece: &Piece) -> &'static str {
-    match piece.kind {
-        Kind::Text => "text",
-        Kind::Ref => "ref",
-        Kind::Loose => "loose",
-        Kind::Tag => "tag",
-        Kind::Pi => "pi",
-        Kind::Comment => "comment",
-        Kind::CData => "cdata",
-        Kind::DocType => "doctype",
     }
 }
 
@@ -125,8 +112,8 @@ fn show_answer<W: fmt::Write>(answer: &Answer<()>, f: &mut fmt::Formatter<W>) ->
     match answer {
         Answer::Text(Ok(text)) => f.write_str(text_name(text)),
         Answer::Ref(Ok(reference)) => f.write_str(ref_name(reference)),
-        Answer::Peek(Ok(Peeked::Byte(b, _))) => write!(f, "Some({b})"),
-        Answer::Peek(Ok(Peeked::Nothing)) => f.write_str("None"),
+        Answer::Peek(Ok(Some((b, _)))) => write!(f, "Some({b})"),
+        Answer::Peek(Ok(None)) => f.write_str("None"),
         Answer::With(Ok(_)) | Answer::Abandon(Ok(_)) => f.write_str("Ok"),
         Answer::Bang(Ok((kind, _))) => write!(f, "{kind:?}"),
         Answer::Text(Err(refusal)) | Answer::Ref(Err(refusal)) | Answer::Peek(Err(refusal)) =>
@@ -143,7 +130,10 @@ impl fmt::Display for Reply {
     fn fmt<W: fmt::Write>(&self, f: &mut fmt::Formatter<W>) -> fmt::Result {
         match self {
             Reply::Single(answer) => show_answer(answer, f),
-            Reply::Next(Ok(Some(piece))) => f.write_str(piece_name(piece)),
+            Reply::Next(Ok(Some(piece))) => {
+                let kind = piece.kind;
+                write!(f, "{kind}")
+            }
             Reply::Next(Ok(None)) => f.write_str("end"),
             Reply::Next(Err(refusal)) => show_error(&refusal.error, f),
         }

@@ -2,12 +2,10 @@
 use Rattle.std.specs.Prelude.{◌≡◌, ℕ, true, is_some, Some, None, Ok, Err, Option, Result}
 use Rattle.model.specs.declared.answer.Refused.{Refused}
 use Rattle.model.specs.declared.answer.Refused.TheVariants.{Kept, Spent}
-use Rattle.reader.specs.Token.{OpeningToken}
 
--- only while an opening is pending
-abbrev pub Held : Option OpeningToken → Option ℕ → Type 0
-Held None opening = Unit {0}
-Held (Some token) opening = is_some opening ≡ true
+-- a token is held only while an opening is pending
+abbrev pub Held : {T : Type 0} → Option T → Option ℕ → Type 0
+Held held opening = is_some held ≡ true → is_some opening ≡ true
 
 module _ {A T : Type 0} where
   abbrev pub handed : Result A (Refused T) → Option T

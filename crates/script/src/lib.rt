@@ -1,8 +1,8 @@
 // Cases of calls: making the calls, and writing what they answer.
 #![tactic(auto)]
 
-mod calls;
 mod line;
 mod run;
+mod session;
 
 pub use run::replay;

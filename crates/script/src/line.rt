@@ -1,41 +1,20 @@
 // The lines that are written.
-use cases::{Call, Spending};
+use cases::Call;
 use model::Told;
 use replies::Reply;
-use std::alloc::AllocError;
 use std::io;
 use std::io::Write;
 
 // What each byte of a buffer is before a call.
 pub(crate) const BLANK: u8 = 0xaa;
 
-fn call_name(call: Call) -> &'static str {
-    match call {
-        Call::Text => "text",
-        Call::Ref => "ref",
-        Call::Peek => "peek",
-        Call::Next => "next",
-        Call::Spend(Spending::Elem) => "elem",
-        Call::Spend(Spending::Pi) => "pi",
-        Call::Spend(Spending::Comment) => "comment",
-        Call::Spend(Spending::Bang) => "bang",
-        Call::Spend(Spending::Abandon) => "abandon",
-    }
-}
-
-// A hexadecimal digit, in lower case.
-fn digit(n: u8) -> u8 {
-    b"0123456789abcdef"[n as usize % 16]
-}
-
 // Bytes as pairs of hexadecimal digits; `-` for none.
-fn write_hex(lines: &mut Vec<u8>, bytes: &[u8]) -> Result<(), AllocError> {
+fn write_hex(lines: &mut Vec<u8>, bytes: &[u8]) -> io::Result<()> {
     if bytes.is_empty() {
         lines.push(b'-')?;
     }
     for b in bytes {
-        lines.push(digit(*b / 16))?;
-        lines.push(digit(*b % 16))?;
+        write!(lines, "{b:02x}")?;
     }
     Ok(())
 }
@@ -48,17 +27,11 @@ pub(crate) fn write_reply(
     reply: &Reply,
 ) -> io::Result<()> {
     lines.extend_from_slice(id)?;
-    lines.push(b'\t')?;
-    lines.extend_from_slice(call_name(call).as_bytes())?;
-    write!(lines, "\t{reply}")
+    write!(lines, "\t{call}\t{reply}")
 }
 
 // What the call wrote to the buffer's front; `spilled` where a byte behind that was changed.
-pub(crate) fn write_front(
-    lines: &mut Vec<u8>,
-    front: &[u8],
-    spilled: bool,
-) -> Result<(), AllocError> {
+pub(crate) fn write_front(lines: &mut Vec<u8>, front: &[u8], spilled: bool) -> io::Result<()> {
     if spilled {
         lines.extend_from_slice(b"!SPILL")?;
     }

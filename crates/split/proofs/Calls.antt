@@ -1,7 +1,7 @@
 -- A call that gathers one piece gives the one that there is. Assumes nothing.
 use Rattle.std.proofs.Common.{◌≡◌, ℕ, ◌^◌, ◌≤◌, cond, ltb, leb, List, length, drop, Ok, Err, Option, Result, sym, refl, ap, ◌∙◌, subst, arith}
 use Rattle.std.proofs.lemmas.List.{take_at, drop_at}
-use Rattle.std.proofs.lemmas.Bool.{cond_both, leb-true}
+use Rattle.std.proofs.lemmas.Bool.{cond_both, ltb-false}
 use Rattle.source.specs.Stream.{bytes_of}
 use Rattle.parser.specs.Scan.{Meaning, Prefix}
 use Rattle.model.specs.Gather.{Gathered, gather}
@@ -19,18 +19,14 @@ module _ (size least : ℕ) where
   abbrev Long : Result (Unit {0}) Error → Type 0
   Long a = a ≡ Ok tt → least ≤ size
 
-  refusal_long : {e : Error} → Long (Err e)
-  refusal_long q = let z : ◌≡◌ {A = ℕ} 0 1 = cc in absurd (omega arith)
-
-  chain_long : (a : Result (Unit {0}) Error) → Long (chain a (λ _. cond (leb least size) (Ok tt) (Err BufferTooShort)))
-  chain_long (Ok u) = cond_both (leb least size) _ _ Long (λ q _. leb-true least size q) (λ _. refusal_long)
-  chain_long (Err e) = refusal_long
+  chain_long : (a : Result (Unit {0}) Error) → Long (chain a (λ _. cond (ltb size least) (Err BufferTooShort) (Ok tt)))
+  chain_long (Ok u) = cond_both (ltb size least) _ _ Long (λ _ q. cc) (λ q _. ltb-false size least q)
+  chain_long (Err e) = λ q. cc
 
   pub admitted_long : (position : ℕ) (w : Pending) (o : Option ℕ) → Long (admitted position size w o least)
   admitted_long position w o =
-      cond_both (ltb position (2 ^ 63)) _ _ Long
-      (λ _. cond_both (leb size 16777216) _ _ Long (λ _. chain_long (pends w o)) (λ _. refusal_long))
-      (λ _. refusal_long)
+      cond_both (leb (2 ^ 63) position) _ _ Long (λ _ q. cc)
+      (λ _. cond_both (ltb 16777216 size) _ _ Long (λ _ q. cc) (λ _. chain_long (pends w o)))
 
 module _ {E A : Type 0} (r : Reading E A) where
   -- what is gathered is the one piece

@@ -59,8 +59,7 @@ module _ (m : Meaning) (law : Prefix m) where
       early : (due : _) (j : ℕ) → m bs ≡ unclosed due → m (bs ++ more) ≡ stop j → (j < length bs) ⊎ (length bs ≤ j) → length bs ≤ j
       early due j e q (inl h) =
           let short : j + 1 ≤ length bs = omega arith in
-          let z : ◌≡◌ {A = ℕ} 0 1 = cc ((law (bs ++ more) j q).1 bs (sym (take-append-le (j + 1) bs more short))) in
-          absurd (omega arith)
+          cc ((law (bs ++ more) j q).1 bs (sym (take-append-le (j + 1) bs more short)))
       early due j e q (inr h) = h
 
       behind : (due : _) (v : Verdict) → m bs ≡ unclosed due → m (bs ++ more) ≡ v → Settles (verdict_cut (unclosed due)) (length bs) (verdict_cut v)

@@ -1,12 +1,12 @@
 -- What is gathered is a piece, and there is no other. Assumes nothing.
-use Rattle.std.proofs.Common.{◌≡◌, ℕ, zero, suc, ◌+◌, ◌-◌, ◌<◌, ◌≤◌, Bool, true, false, ltb, List, [], ◌∷◌, ◌++◌, length, sym, refl, ap, ◌∙◌, subst, append_assoc, append-nil, arith, length-append}
+use Rattle.std.proofs.Common.{◌≡◌, ℕ, zero, suc, ◌+◌, ◌-◌, ◌<◌, ◌≤◌, Bool, true, false, ltb, List, [], ◌∷◌, ◌++◌, length, Ok, Err, sym, refl, ap, ◌∙◌, subst, append_assoc, append-nil, arith, length-append}
 use lib.Seq.{append_snoc}
 use Rattle.std.proofs.lemmas.List.{length_push}
 use Rattle.std.proofs.lemmas.Bool.{ltb-true, ltb-false, lt-ltb, le-ltb}
 use Rattle.source.specs.Stream.{Item, byte, wait, Tail, end, fault, bytes_in, waits_in}
 use Rattle.model.specs.Cut.{Cut, before, through, nowhere, behind_one}
 use Rattle.model.specs.Gather.{Gathered, gathered, next, on_byte, gather}
-use Rattle.model.specs.declared.ending.Ending.TheVariants.{Ended, Fault, Worn, Full}
+use Rattle.errors.specs.declared.Error.TheVariants.{Patience, Io, BufferFull}
 use Rattle.split.specs.Piece.{count, Inside, Open, Holds, Ends, before_byte, with_byte, at_end, at_fault, at_wait, at_full, Piece, GatherIsPiece, PieceAlone}
 
 pub bytes_append : (xs ys : List Item) → bytes_in (xs ++ ys) ≡ bytes_in xs ++ bytes_in ys
@@ -95,14 +95,14 @@ module _ {E : Type 0} where
     }
 
   module _ (size : ℕ) (so_far : List ℕ) (p : ℕ) (b : ℕ) (is : List Item) (t : Tail) (room : length so_far ≤ size) where
-    full : (c : Cut E) → ltb (length so_far) size ≡ false → Holds c 0 → Piece c size so_far p (byte b ∷ is) t (gathered so_far (byte b ∷ is) Full)
-    full c q h = piece_none c so_far (gathered so_far (byte b ∷ is) Full) refl room (at_full [] h (omega arith) (omega (arith, ltb-false (length so_far) size q)))
+    full : (c : Cut E) → ltb (length so_far) size ≡ false → Holds c 0 → Piece c size so_far p (byte b ∷ is) t (gathered so_far (byte b ∷ is) (Err BufferFull))
+    full c q h = piece_none c so_far (gathered so_far (byte b ∷ is) (Err BufferFull)) refl room (at_full [] h (omega arith) (omega (arith, ltb-false (length so_far) size q)))
 
     -- a byte comes first
     on_byte-piece : (c : Cut E) (fits : Bool) → ltb (length so_far) size ≡ fits → Inside c (suc (count is))
         → ((d : Cut E) → Inside d (count is) → length (so_far ++ b ∷ []) ≤ size → Piece d size (so_far ++ b ∷ []) p is t (gather d size (so_far ++ b ∷ []) p is t))
         → Piece c size so_far p (byte b ∷ is) t (on_byte c fits so_far b is (gather (next c) size (so_far ++ b ∷ []) p is t))
-    on_byte-piece (before zero e) fits q h rest = piece_none (before zero e) so_far (gathered so_far (byte b ∷ is) (Ended e)) refl room (before_byte [] refl (omega arith))
+    on_byte-piece (before zero e) fits q h rest = piece_none (before zero e) so_far (gathered so_far (byte b ∷ is) (Ok e)) refl room (before_byte [] refl (omega arith))
     on_byte-piece (before (suc k) e) true q h rest = piece_byte (before k e) so_far b (rest (before k e) (omega arith) (grows so_far b size q))
     on_byte-piece (before (suc k) e) false q h rest = full (before (suc k) e) q (omega arith)
     on_byte-piece (through zero e) true q h rest = record {
@@ -127,10 +127,10 @@ module _ {E : Type 0} where
 pub gather_is_piece : (E : Type 0) → GatherIsPiece E
 gather_is_piece E c size so_far p [] end h room =
     none_inside (λ x. Piece x size so_far p [] end (gather x size so_far p [] end)) c h
-    (λ due. piece_none (nowhere due) so_far (gathered so_far [] (Ended (due so_far))) refl room (at_end [] refl (omega arith) refl))
+    (λ due. piece_none (nowhere due) so_far (gathered so_far [] (Ok (due so_far))) refl room (at_end [] refl (omega arith) refl))
 gather_is_piece E c size so_far p [] (fault f) h room =
-    none_inside (λ x. Piece x size so_far p [] (fault f) (gathered so_far [] (Fault f))) c h
-    (λ due. piece_none (nowhere due) so_far (gathered so_far [] (Fault f)) refl room (at_fault [] refl (omega arith) refl))
+    none_inside (λ x. Piece x size so_far p [] (fault f) (gathered so_far [] (Err (Io f)))) c h
+    (λ due. piece_none (nowhere due) so_far (gathered so_far [] (Err (Io f))) refl room (at_fault [] refl (omega arith) refl))
 gather_is_piece E c size so_far zero (wait ∷ is) t h room = record {
   met = wait ∷ [];
   split = refl;
@@ -171,7 +171,7 @@ module _ {E : Type 0} where
 
   -- a byte of the piece that does not fit
   on_byte_full : (c : Cut E) (n : ℕ) (fits : Bool) (so_far : List ℕ) (b : ℕ) (is : List Item) (rest : Gathered E) → Holds c n → fits ≡ false
-      → on_byte (ahead n c) fits so_far b is rest ≡ gathered so_far (byte b ∷ is) Full
+      → on_byte (ahead n c) fits so_far b is rest ≡ gathered so_far (byte b ∷ is) (Err BufferFull)
   on_byte_full (before zero e) n fits so_far b is rest h q = absurd (omega arith)
   on_byte_full (before (suc k) e) zero fits so_far b is rest h q = rw q
   on_byte_full (before (suc k) e) (suc n) fits so_far b is rest h q = on_byte_full (before k e) n fits so_far b is rest (omega arith) q
@@ -206,34 +206,34 @@ module _ {E : Type 0} where
       ends_gathered : {met : List Item} {g : Gathered E} → Ends c size p t met g → g.bytes ≡ so_far ++ bytes_in met → length g.bytes ≤ size
           → g ≡ gather c size so_far p (met ++ g.left) t
       ends_gathered (before_byte met {is = is} {b = b} {e = e} q w) bytes fits =
-          ap (λ x. gathered x (byte b ∷ is) (Ended e)) bytes
+          ap (λ x. gathered x (byte b ∷ is) (Ok e)) bytes
           ∙ sym (passes_to (before (count met) e) (before 0 e) met (byte b ∷ is) q (omega arith) (ahead_before (count met) e) w (rw bytes at fits))
       ends_gathered (with_byte met b {is = is} {bs = bs} {e = e} q w) bytes fits =
           let old = so_far ++ bytes_in met in
           let all : bs ≡ old ++ b ∷ [] = bytes ∙ ap (λ x. so_far ++ x) (bytes_append met (byte b ∷ [])) ∙ sym (append_assoc so_far (bytes_in met) (b ∷ [])) in
           let room : length old < size = omega (arith, length_push old b, (rw all at fits)) in
-          ap (λ x. gathered x is (Ended e)) all
+          ap (λ x. gathered x is (Ok e)) all
           ∙ ap (λ x. on_byte (through 0 e) x old b is (gather (through 0 e) size (old ++ b ∷ []) (p - waits_in met) is t)) (sym (lt-ltb (length old) size room))
           ∙ sym (passes_to (through (count met) e) (through 0 e) met (byte b ∷ is) q (omega arith) (ahead_through (count met) e) w (omega arith))
           ∙ ap (λ x. gather c size so_far p x t) (sym (append_assoc met (byte b ∷ []) is))
       ends_gathered (at_end met {due = due} q w h) bytes fits =
-          ap (λ x. gathered x [] (Ended (due x))) bytes
+          ap (λ x. gathered x [] (Ok (due x))) bytes
           ∙ ap (λ u. gather (nowhere due) size (so_far ++ bytes_in met) (p - waits_in met) [] u) (sym h)
           ∙ sym (passes_to (nowhere due) (nowhere due) met [] q tt (ahead_nowhere (count met) due) w (rw bytes at fits))
       ends_gathered (at_fault met {due = due} {f = f} q w h) bytes fits =
-          ap (λ x. gathered x [] (Fault f)) bytes
+          ap (λ x. gathered x [] (Err (Io f))) bytes
           ∙ ap (λ u. gather (nowhere due) size (so_far ++ bytes_in met) (p - waits_in met) [] u) (sym h)
           ∙ sym (passes_to (nowhere due) (nowhere due) met [] q tt (ahead_nowhere (count met) due) w (rw bytes at fits))
       ends_gathered (at_wait met {is = is} {bs = bs} o w) bytes fits =
           let all : bs ≡ so_far ++ bytes_in met = bytes ∙ ap (λ x. so_far ++ x) (bytes_append met (wait ∷ []) ∙ append-nil (bytes_in met)) in
           let room : length (so_far ++ bytes_in met) ≤ size = rw all at fits in
-          ap (λ x. gathered x is Worn) all
+          ap (λ x. gathered x is (Err Patience)) all
           ∙ sym (passes c so_far p 0 met (wait ∷ is) o (omega arith) (simp length-append at room))
           ∙ ap (λ x. gather c size so_far p x t) (sym (append_assoc met (wait ∷ []) is))
       ends_gathered (at_full met {is = is} {b = b} o w f) bytes fits =
           let old = so_far ++ bytes_in met in
           let none : size ≤ length old = omega (arith, ap length bytes) in
-          ap (λ x. gathered x (byte b ∷ is) Full) bytes
+          ap (λ x. gathered x (byte b ∷ is) (Err BufferFull)) bytes
           ∙ sym (on_byte_full c (count met) (ltb (length old) size) old b is _ o (le-ltb (length old) size none))
           ∙ sym (passes_to c (ahead (count met) c) met (byte b ∷ is) refl (holds_open c (count met) o) refl w (rw bytes at fits))
 

@@ -1,11 +1,11 @@
 -- What follows the item at which a piece ended does not matter. Assumes nothing.
-use Rattle.std.proofs.Common.{◌≡◌, ℕ, ◌<◌, ◌≤◌, ◌⊎◌, List, [], ◌∷◌, ◌++◌, length, sym, ap, ◌∙◌, subst, inl, inr, append_assoc, arith, length-append}
+use Rattle.std.proofs.Common.{◌≡◌, ℕ, ◌<◌, ◌≤◌, ◌⊎◌, List, [], ◌∷◌, ◌++◌, length, Ok, Err, sym, ap, ◌∙◌, subst, inl, inr, append_assoc, arith, length-append}
 use mathlib.Core.List.{append_cancel_right}
 use lib.Seq.{append_snoc}
 use Rattle.source.specs.Stream.{Item, byte, wait, Tail, bytes_in}
 use Rattle.model.specs.Cut.{Cut, before, through, nowhere}
 use Rattle.model.specs.Gather.{Gathered, gathered}
-use Rattle.model.specs.declared.ending.Ending.TheVariants.{Ended, Full}
+use Rattle.errors.specs.declared.Error.TheVariants.{BufferFull}
 use Rattle.split.specs.Piece.{count, Open, Holds, Ends, before_byte, with_byte, at_end, at_fault, at_wait, at_full}
 use Rattle.split.specs.Lawful.{Settles, Lawful, Unseen}
 use Rattle.split.proofs.Pieces.{bytes_append}
@@ -63,19 +63,19 @@ module _ {E : Type 0} where
         → Ends d size p u met (gathered g.bytes (i ∷ (is ++ other)) g.ending)
     ends_unseen (before_byte met {is = js} {bs = bs} {b = b} {e = e} q w) l s =
         let k = next_byte met js b l in
-        subst (λ x. Ends d size p u met (gathered bs (x ∷ (is ++ other)) (Ended e))) k.0
+        subst (λ x. Ends d size p u met (gathered bs (x ∷ (is ++ other)) (Ok e))) k.0
         (before_byte met (same_before c d (count met) (count (met ++ i ∷ [])) e s k.1 q) w)
     ends_unseen (with_byte met b {e = e} q w) l s =
         let more : count met < count ((met ++ byte b ∷ []) ++ i ∷ []) = omega (arith, count_byte met b, count-append (met ++ byte b ∷ []) (i ∷ [])) in
         with_byte met b (same_through c d (count met) _ e s more q) w
-    ends_unseen (at_end met q w h) l s = let z : ◌≡◌ {A = ℕ} 0 1 = cc in absurd (omega arith)
-    ends_unseen (at_fault met q w h) l s = let z : ◌≡◌ {A = ℕ} 0 1 = cc in absurd (omega arith)
+    ends_unseen (at_end met q w h) l s = cc
+    ends_unseen (at_fault met q w h) l s = cc
     ends_unseen (at_wait met o w) l s =
         let more : count met ≤ count ((met ++ wait ∷ []) ++ i ∷ []) = omega (arith, count-append met (wait ∷ []), count-append (met ++ wait ∷ []) (i ∷ [])) in
         at_wait met (same_open c d (count met) _ s more o) w
     ends_unseen (at_full met {is = js} {bs = bs} {b = b} o w f) l s =
         let k = next_byte met js b l in
-        subst (λ x. Ends d size p u met (gathered bs (x ∷ (is ++ other)) Full)) k.0
+        subst (λ x. Ends d size p u met (gathered bs (x ∷ (is ++ other)) (Err BufferFull))) k.0
         (at_full met (same_holds c d (count met) (count (met ++ i ∷ [])) s k.1 o) w f)
 
 pub unseen : {E : Type 0} (cut : List ℕ → Cut E) → Lawful cut → Unseen cut

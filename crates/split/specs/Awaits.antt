@@ -1,23 +1,21 @@
 -- What peek_one and read_bang_element do, told by the byte that each of them awaits.
-use Rattle.std.specs.Prelude.{◌≡◌, ℕ, ◌-◌, cond, List, [], ◌∷◌, length, drop, Some, None, Ok, Err, Option, Result, ◌==◌}
+use Rattle.std.specs.Prelude.{◌≡◌, ℕ, ◌-◌, if◌then◌else◌, List, [], ◌∷◌, length, drop, Some, None, Ok, Err, Option, Result, ◌==◌}
 use Rattle.source.specs.Stream.{Item, byte, Tail, bytes_in, waits_in}
-use Rattle.bang.specs.Bang.{bang, bang_type}
+use Rattle.bang.specs.Bang.{bang}
 use Rattle.bang.specs.declared.bang.BangType.{BangType}
 use Rattle.parser.specs.declared.errors.SyntaxError.{SyntaxError}
-use Rattle.parser.specs.declared.errors.SyntaxError.TheVariants.{InvalidBangMarkup}
 use Rattle.model.specs.Cut.{Cut, before, nowhere, scan_cut}
 use Rattle.model.specs.Gather.{Gathered}
-use Rattle.model.specs.Call.{State, left_with, Outcome, outcome, admitted, chain, finished, spending, with_piece, Reading}
+use Rattle.model.specs.Call.{State, left_with, Outcome, outcome, admitted, chain, spending, with_piece, Reading}
 use Rattle.model.specs.Peek.{peek_none, peek_behind, peeks}
-use Rattle.model.specs.Bang.{bang_prefix, bang_stuck, kind_of, with_kind, bangs}
+use Rattle.model.specs.Bang.{bang_of, bang_prefix, bang_stuck, kind_of, with_kind, bangs}
 use Rattle.model.specs.declared.answer.BangKind.{BangKind}
-use Rattle.model.specs.declared.answer.Peeked.{Peeked}
 use Rattle.model.specs.declared.answer.Refusal.{Refusal}
 use Rattle.model.specs.declared.answer.Refused.{Refused}
 use Rattle.model.specs.declared.answer.Refused.TheVariants.{Kept}
 use Rattle.model.specs.declared.ending.Pending.TheVariants as pending
 use Rattle.errors.specs.declared.Error.{Error}
-use Rattle.errors.specs.declared.Error.TheVariants.{FirstByte, Syntax}
+use Rattle.errors.specs.declared.Error.TheVariants.{FirstByte}
 use Rattle.split.specs.Piece.{Piece, Only}
 use Rattle.split.specs.Reads.{OnePiece}
 
@@ -31,36 +29,26 @@ First patience is t = Piece (first_cut (bytes_in is)) 0 [] patience is t
 
 -- `<` (60) must come first
 abbrev pub opens : Result (Option ℕ) Error → Result (Unit {0}) Error
-opens (Ok (Some b)) = cond (b == 60) (Ok tt) (Err FirstByte)
+opens (Ok (Some b)) = if b == 60 then Ok tt else Err FirstByte
 opens (Ok None) = Err FirstByte
 opens (Err e) = Err e
-
-abbrev pub known : Option BangType → Result BangType Error
-known (Some k) = Ok k
-known None = Err (Syntax InvalidBangMarkup)
-
--- the first byte behind `<!` must name a kind
-abbrev pub named : Result (Option ℕ) Error → Result BangType Error
-named (Ok (Some b)) = known (bang_type b)
-named (Ok None) = known None
-named (Err e) = Err e
 
 abbrev pub peek_asked : State → Result (Unit {0}) Error
 peek_asked s = admitted s.position 0 pending.Nothing s.opening 0
 
 module _ {T : Type 0} (token : T) (s : State) where
   -- behind the `<`, the next byte is awaited with the patience that is left
-  pub record BehindOpening (patience : ℕ) (is : List Item) (o : Outcome (Result (Peeked T) Refusal)) : Type 0 where
+  pub record BehindOpening (patience : ℕ) (is : List Item) (o : Outcome (Result (Option (ℕ × T)) Refusal)) : Type 0 where
     pub first : Only (First patience is s.stream.tail)
-    pub gave : o ≡ peek_behind token s (finished first.it.ending) first.it.left
+    pub gave : o ≡ peek_behind token s first.it.ending first.it.left
 
-  pub record AtOpening (patience : ℕ) (o : Outcome (Result (Peeked T) Refusal)) : Type 0 where
+  pub record AtOpening (patience : ℕ) (o : Outcome (Result (Option (ℕ × T)) Refusal)) : Type 0 where
     pub first : Only (First patience s.stream.items s.stream.tail)
-    pub none : (e : Error) → opens (finished first.it.ending) ≡ Err e → o ≡ peek_none token s e first.it.left
-    pub some : opens (finished first.it.ending) ≡ Ok tt → BehindOpening (patience - waits_in first.is.met) (drop 1 first.it.left) o
+    pub none : (e : Error) → opens first.it.ending ≡ Err e → o ≡ peek_none token s e first.it.left
+    pub some : opens first.it.ending ≡ Ok tt → BehindOpening (patience - waits_in first.is.met) (drop 1 first.it.left) o
 
   -- peek_one
-  pub record PeekCall (patience : ℕ) (o : Outcome (Result (Peeked T) Refusal)) : Type 0 where
+  pub record PeekCall (patience : ℕ) (o : Outcome (Result (Option (ℕ × T)) Refusal)) : Type 0 where
     pub refused : (e : Error) → peek_asked s ≡ Err e → o ≡ peek_none token s e s.stream.items
     pub read : peek_asked s ≡ Ok tt → AtOpening patience o
 
@@ -72,15 +60,15 @@ bang_reading token k = record {
   wanted = pending.Bang;
   least = 2;
   early = λ e. Err (Kept e token);
-  answer = λ bs e. spending (length bs) (with_kind (kind_of k) (chain (finished e) (with_piece bs)));
+  answer = λ bs e. spending (length bs) (with_kind (kind_of k) (chain e (with_piece bs)));
 }
 
 module _ {T : Type 0} (token : T) (s : State) (buf : List ℕ) (patience : ℕ) (o : Outcome (Result (BangKind × ℕ) (Refused T))) where
   -- behind the `!`, the first byte names the kind, and the one piece of that kind begins with it
   pub record BehindBang : Type 0 where
     pub first : Only (First patience s.stream.items s.stream.tail)
-    pub none : (e : Error) → named (finished first.it.ending) ≡ Err e → o ≡ bang_stuck token s buf bang_prefix 1 e first.it.left
-    pub some : (k : BangType) → named (finished first.it.ending) ≡ Ok k → OnePiece (bang_reading token k) s buf patience o
+    pub none : (e : Error) → chain first.it.ending bang_of ≡ Err e → o ≡ bang_stuck token s buf bang_prefix 1 e first.it.left
+    pub some : (k : BangType) → chain first.it.ending bang_of ≡ Ok k → OnePiece (bang_reading token k) s buf patience o
 
 abbrev pub bang_asked : State → List ℕ → Result (Unit {0}) Error
 bang_asked s buf = admitted s.position (length buf) pending.Bang s.opening 2

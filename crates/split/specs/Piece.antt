@@ -1,10 +1,10 @@
 -- What a piece is: how the call that gathers it splits the items of the source, and why it ends there.
-use Rattle.std.specs.Prelude.{◌≡◌, ℕ, ◌<◌, ◌≤◌, List, [], ◌∷◌, ◌++◌, length}
-use Rattle.source.specs.declared.fault.Fault.{Fault as SourceFault}
+use Rattle.std.specs.Prelude.{◌≡◌, ℕ, ◌<◌, ◌≤◌, List, [], ◌∷◌, ◌++◌, length, Ok, Err}
+use Rattle.source.specs.declared.fault.Fault.{Fault}
 use Rattle.source.specs.Stream.{Item, byte, wait, Tail, end, fault, bytes_in, waits_in}
 use Rattle.model.specs.Cut.{Cut, before, through, nowhere}
 use Rattle.model.specs.Gather.{Gathered, gathered, gather}
-use Rattle.model.specs.declared.ending.Ending.TheVariants.{Ended, Fault, Worn, Full}
+use Rattle.errors.specs.declared.Error.TheVariants.{Patience, Io, BufferFull}
 
 -- how many bytes are among the items
 abbrev pub count : List Item → ℕ
@@ -32,22 +32,22 @@ Holds (nowhere due) n = Unit {0}
 pub data Ends {E : Type 0} (c : Cut E) (size patience : ℕ) (tail : Tail) : List Item → Gathered E → Type 0 where
   -- it ends before the next byte
   before_byte : (met : List Item) {is : List Item} {bs : List ℕ} {b : ℕ} {e : E} → c ≡ before (count met) e → waits_in met ≤ patience
-      → Ends c size patience tail met (gathered bs (byte b ∷ is) (Ended e))
+      → Ends c size patience tail met (gathered bs (byte b ∷ is) (Ok e))
   -- it ends with the byte met last
   with_byte : (met : List Item) (b : ℕ) {is : List Item} {bs : List ℕ} {e : E} → c ≡ through (count met) e → waits_in met ≤ patience
-      → Ends c size patience tail (met ++ byte b ∷ []) (gathered bs is (Ended e))
+      → Ends c size patience tail (met ++ byte b ∷ []) (gathered bs is (Ok e))
   -- no byte ends it, and the source ends
   at_end : (met : List Item) {bs : List ℕ} {due : List ℕ → E} → c ≡ nowhere due → waits_in met ≤ patience → tail ≡ end
-      → Ends c size patience tail met (gathered bs [] (Ended (due bs)))
+      → Ends c size patience tail met (gathered bs [] (Ok (due bs)))
   -- no byte ends it, and the source fails
-  at_fault : (met : List Item) {bs : List ℕ} {due : List ℕ → E} {f : SourceFault} → c ≡ nowhere due → waits_in met ≤ patience → tail ≡ fault f
-      → Ends c size patience tail met (gathered bs [] (Fault f))
+  at_fault : (met : List Item) {bs : List ℕ} {due : List ℕ → E} {f : Fault} → c ≡ nowhere due → waits_in met ≤ patience → tail ≡ fault f
+      → Ends c size patience tail met (gathered bs [] (Err (Io f)))
   -- nothing ended it before the wait met last, which is one more than the patience
   at_wait : (met : List Item) {is : List Item} {bs : List ℕ} → Open c (count met) → waits_in met ≡ patience
-      → Ends c size patience tail (met ++ wait ∷ []) (gathered bs is Worn)
+      → Ends c size patience tail (met ++ wait ∷ []) (gathered bs is (Err Patience))
   -- the next byte belongs to it, and there is no room
   at_full : (met : List Item) {is : List Item} {bs : List ℕ} {b : ℕ} → Holds c (count met) → waits_in met ≤ patience → length bs ≡ size
-      → Ends c size patience tail met (gathered bs (byte b ∷ is) Full)
+      → Ends c size patience tail met (gathered bs (byte b ∷ is) (Err BufferFull))
 
 -- g is the piece behind `so_far`, for a buffer of `size` bytes
 pub record Piece {E : Type 0} (c : Cut E) (size : ℕ) (so_far : List ℕ) (patience : ℕ) (items : List Item) (tail : Tail) (g : Gathered E) : Type 0 where

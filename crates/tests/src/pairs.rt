@@ -12,16 +12,21 @@ fn text_and_ref<S: Source, T: Source>(
 ) -> [(Told, Told, [u8; 8]); 2] {
     let mut buf = [0; 8];
     let mut other_buf = [0; 8];
-    let text: Call<ElementParser> = Call::ReadText;
-    let same: Call<ElementParser> = Call::ReadText;
-    let (text, other_text) = both(one, other, text, same, &mut buf, &mut other_buf, 0, 2);
-    let reference: Call<ElementParser> = Call::ReadRef;
-    let same: Call<ElementParser> = Call::ReadRef;
+    let (text, other_text) = both(
+        one,
+        other,
+        Call::<ElementParser>::ReadText,
+        Call::<ElementParser>::ReadText,
+        &mut buf,
+        &mut other_buf,
+        0,
+        2,
+    );
     let (reference, other_reference) = both(
         one,
         other,
-        reference,
-        same,
+        Call::<ElementParser>::ReadRef,
+        Call::<ElementParser>::ReadRef,
         &mut buf,
         &mut other_buf,
         0,

@@ -11,6 +11,15 @@ const TAG: Result<Option<Piece>, Refusal> = Ok(Some(Piece {
     written: 3,
 }));
 
+// A refusal whose bytes all came from the source.
+fn refused(error: Error, taken: usize) -> Result<Option<Piece>, Refusal> {
+    Err(Refusal {
+        error,
+        written: taken,
+        taken,
+    })
+}
+
 // A buffer exactly full, and one byte short.
 #[test]
 fn room(rt: HostRuntime) {
@@ -18,14 +27,7 @@ fn room(rt: HostRuntime) {
     assert_eq!(rt; whole, TAG);
     assert_eq!(rt; behind, 3);
     let (short, behind) = first_piece(b"<a>", b"", &mut [0u8; 2]);
-    assert_eq!(rt;
-        short,
-        Err(Refusal {
-            error: Error::BufferFull,
-            written: 2,
-            taken: 2,
-        })
-    );
+    assert_eq!(rt; short, refused(Error::BufferFull, 2));
     assert_eq!(rt; behind, 2);
 }
 
@@ -38,11 +40,7 @@ fn quota(rt: HostRuntime) {
     let mut passed = Reader::new(Quota::new(Whole::new(b"<a>"), 2), 0);
     assert_eq!(rt;
         next_piece(&mut passed, &mut buf, 0),
-        Err(Refusal {
-            error: Error::Io(Fault::Quota(2)),
-            written: 2,
-            taken: 2,
-        })
+        refused(Error::Io(Fault::Quota(2)), 2)
     );
 }
 
@@ -51,22 +49,11 @@ fn quota(rt: HostRuntime) {
 fn patience(rt: HostRuntime) {
     let mut buf = [0u8; 8];
     let (worn, behind) = first_piece(b"<a>", &[2, 0], &mut buf);
-    assert_eq!(rt;
-        worn,
-        Err(Refusal {
-            error: Error::Patience,
-            written: 2,
-            taken: 2,
-        })
-    );
+    assert_eq!(rt; worn, refused(Error::Patience, 2));
     assert_eq!(rt; behind, 2);
     let mut full = Reader::new(Whole::new(b"<a>"), 0x8000_0000_0000_0000);
     assert_eq!(rt;
         next_piece(&mut full, &mut buf, 0),
-        Err(Refusal {
-            error: Error::Position,
-            written: 0,
-            taken: 0,
-        })
+        refused(Error::Position, 0)
     );
 }

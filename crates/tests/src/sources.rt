@@ -1,5 +1,6 @@
 // Sources, looked at and emptied frame by frame.
 use source::{Cut, Fault, Look, Narrow, Quota, Source, Whole};
+use std::array;
 
 // Looks, and takes what is then shown: the answer, and how many bytes those were.
 fn step<S: Source>(source: &mut S) -> (Look, usize) {
@@ -10,14 +11,7 @@ fn step<S: Source>(source: &mut S) -> (Look, usize) {
 }
 
 fn steps<S: Source>(source: &mut S) -> [(Look, usize); 6] {
-    [
-        step(source),
-        step(source),
-        step(source),
-        step(source),
-        step(source),
-        step(source),
-    ]
+    array::from_fn(|_| step(source))
 }
 
 #[test]

@@ -1,7 +1,7 @@
 ghost use Rattle.std.specs.Prelude.{◌≡◌, [], if◌then◌else◌};
 ghost use Rattle.model.specs.Call.{outcome};
 ghost use Rattle.model.specs.History.{Continues, event};
-ghost use Rattle.reader.specs.State.{state_of, the_token};
+ghost use Rattle.reader.specs.State.{the_token};
 ghost use Rattle.twins.specs.Calls.{buffered, call_of, performs};
 
 use model::Answer;
@@ -26,8 +26,8 @@ pub fn perform<S: Source, P: Parser + Drop>(
     buf: &mut [u8],
     patience: u32,
 ) -> Answer<OpeningToken>
-    ensures does { outcome result (state_of S.Source.stream reader.new) buf.new ≡ performs P.Parser.scan (state_of S.Source.stream reader.old) call buf.old patience }
-    ensures report { Continues the_token (state_of S.Source.stream reader.old) (event (call_of P.Parser.scan call buf.old patience) result (if buffered call then buf.new else [])) (state_of S.Source.stream reader.new) }
+    ensures does { outcome result reader.new buf.new ≡ performs P.Parser.scan reader.old call buf.old patience }
+    ensures report { Continues the_token reader.old (event (call_of P.Parser.scan call buf.old patience) result (if buffered call then buf.new else [])) reader.new }
 {
     match call {
         Call::ReadText => Answer::Text(reader.read_text(buf, patience)),

@@ -1,25 +1,26 @@
-use Rattle.std.proofs.Common.{◌+◌, length, Some, ap, ◌∙◌, arith, length-drop}
-use Rattle.cases.proofs.Parts.{start, next, found_front, found_rest, whole_front, whole_rest, all_behind}
+use Rattle.std.proofs.Common.{◌+◌, ◌==◌, Some, length, ap, sym, ◌∙◌, rules, arith, length-drop, drop}
+use borrow.Author.Tests.{tests}
+use Rattle.std.specs.Option.{option_map}
+use Rattle.std.proofs.lemmas.Iterator.{YieldsList-from_slice}
+use Rattle.std.proofs.lemmas.Iterator.Search.{position_from_yields_List}
+use Rattle.cases.proofs.Parts.{before_found, before_none, all_behind}
 use Rattle.cases.proofs.words.cut_at.Goals as goal
 
-pub loop-i-init : goal.loop-i-init
-loop-i-init c = start _ _
-
-pub loop-i-preserved : goal.loop-i-preserved
-loop-i-preserved c = next _ _ _ c.loop-i.invariant c.loop-i-test.true c.if-b-separator.false
-
-pub returns-then-b-separator : goal.returns-then-b-separator
-returns-then-b-separator c =
-    let e = all_behind (c.loop-i.i + 1) c.args.text.now in
+pub returns-in-Some : goal.returns-in-Some
+returns-in-Some c =
+    let place = sym c.in-Some.is ∙ position_from_yields_List (λ b. b == c.args.separator) _ _ _ c.position.ensures.ran (YieldsList-from_slice c.args.text.now cc) (λ x b q k. search (rules, tests)) in
+    let back = all_behind (c.in-Some.i + 1) c.args.text.now in
     record {
-      front = found_front _ _ _ c.loop-i.invariant c.loop-i-test.true c.if-b-separator.true;
-      rest = ap (λ x. Some x) e ∙ found_rest _ _ _ c.loop-i.invariant c.loop-i-test.true c.if-b-separator.true;
-      shorter = omega (arith, ap length e, length-drop (c.loop-i.i + 1) c.args.text.now);
+      front = sym (before_found _ _ _ (sym place));
+      rest = ap (λ x. Some x) back ∙ ap (option_map (λ i. drop (i + 1) c.args.text.now)) place;
+      shorter = omega (arith, ap length back, length-drop (c.in-Some.i + 1) c.args.text.now, ap length c.iter.ensures.rest, c.in-Some.ensures.bound);
     }
 
-pub returns : goal.returns
-returns c = record {
-  front = whole_front _ _ _ c.loop-i.invariant c.loop-i-test.false;
-  rest = whole_rest _ _ _ c.loop-i.invariant c.loop-i-test.false;
-  shorter = tt;
-}
+pub returns-in-None : goal.returns-in-None
+returns-in-None c =
+    let place = sym c.in-None.is ∙ position_from_yields_List (λ b. b == c.args.separator) _ _ _ c.position.ensures.ran (YieldsList-from_slice c.args.text.now cc) (λ x b q k. search (rules, tests)) in
+    record {
+      front = sym (before_none _ _ (sym place));
+      rest = ap (option_map (λ i. drop (i + 1) c.args.text.now)) place;
+      shorter = tt;
+    }

@@ -4,8 +4,8 @@ use Rattle.model.specs.Gather.{gather}
 use Rattle.gather.proofs.gathering.gather.Given as goal
 
 -- what is gathered from here on is what is gathered from the start
-abbrev pub invariant-loop-cutter : goal.invariant-loop-cutter
-invariant-loop-cutter g l =
+abbrev pub invariant-loop-fewer : goal.invariant-loop-fewer
+invariant-loop-fewer g l =
     let now = g.S.Source.stream l.source in
     let start = g.S.Source.stream l.initial.source in
     (gather (g.C.Cutter.cuts l.initial.cutter (bytes_of start)) (length l.initial.buf) (take l.at l.initial.buf) l.patience start.items start.tail
@@ -15,5 +15,5 @@ invariant-loop-cutter g l =
     × (drop l.written l.buf ≡ drop l.written l.initial.buf)
     × (l.at ≤ length l.initial.buf → l.at ≤ l.written)
 
-abbrev pub decreases-loop-cutter : goal.decreases-loop-cutter
-decreases-loop-cutter g l = length (g.S.Source.stream l.source).items
+abbrev pub decreases-loop-fewer : goal.decreases-loop-fewer
+decreases-loop-fewer g l = length (g.S.Source.stream l.source).items

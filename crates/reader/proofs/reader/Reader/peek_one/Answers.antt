@@ -6,14 +6,14 @@ use Rattle.quick.specs.Answers.{AsQuickXmlPeek}
 use Rattle.quick.proofs.Answers.{peek_as}
 use Rattle.split.specs.Awaits.{PeekCall}
 use Rattle.split.proofs.Awaits.{peeks-first}
-use Rattle.reader.specs.State.{state_of, the_token}
+use Rattle.reader.specs.State.{the_token}
 use Rattle.reader.proofs.reader.Reader.peek_one.Goals as goal
 
-pub returns : goal.returns
-returns g c = record {
-  does = c.peek_one_inner.ensures;
-  report = continues the_token (state_of g.S.Source.stream c.args.self.now) (peek_one c.args.patience)
-      (Peek c.peek_one_inner.result) (state_of g.S.Source.stream c.peek_one_inner.new.self) [] (ap (answering Peek) c.peek_one_inner.ensures);
-  piece = subst (PeekCall _ _ _) (sym c.peek_one_inner.ensures) (peeks-first _ _ _);
-  quick = subst (AsQuickXmlPeek (state_of g.S.Source.stream c.args.self.now) c.args.patience) (sym c.peek_one_inner.ensures) (peek_as the_token (state_of g.S.Source.stream c.args.self.now) c.args.patience);
-}
+pub returns-clause-report : goal.returns-clause-report
+returns-clause-report g c = continues the_token _ (peek_one c.args.patience) (Peek _) _ [] (ap (answering Peek) c.peek_one_inner.ensures)
+
+pub returns-clause-piece : goal.returns-clause-piece
+returns-clause-piece g c = subst (PeekCall _ _ _) (sym c.peek_one_inner.ensures) (peeks-first _ _ _)
+
+pub returns-clause-quick : goal.returns-clause-quick
+returns-clause-quick g c = subst (AsQuickXmlPeek c.args.self.now c.args.patience) (sym c.peek_one_inner.ensures) (peek_as the_token c.args.self.now c.args.patience)

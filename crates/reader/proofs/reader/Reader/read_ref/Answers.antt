@@ -7,14 +7,20 @@ use Rattle.quick.proofs.Answers.{ref_as}
 use Rattle.model.specs.Call.{ref_reading}
 use Rattle.split.specs.Reads.{PieceCall}
 use Rattle.split.proofs.Calls.{refs_one_piece}
-use Rattle.reader.specs.State.{state_of, the_token}
+use Rattle.reader.specs.State.{the_token}
 use Rattle.reader.proofs.reader.Reader.read_ref.Goals as goal
 
-pub returns : goal.returns
-returns g c = record {
-  does = c.read_ref_inner.ensures;
-  report = continues the_token (state_of g.S.Source.stream c.args.self.now) (read_ref c.args.buf.now c.args.patience)
-      (Ref c.read_ref_inner.result) (state_of g.S.Source.stream c.read_ref_inner.new.self) c.read_ref_inner.new.buf (ap (answering Ref) c.read_ref_inner.ensures);
-  piece = subst (PieceCall ref_reading _ _ _) (sym c.read_ref_inner.ensures) (refs_one_piece _ _ _);
-  quick = subst (AsQuickXmlRef (state_of g.S.Source.stream c.args.self.now) c.args.buf.now c.args.patience) (sym c.read_ref_inner.ensures) (ref_as (state_of g.S.Source.stream c.args.self.now) c.args.buf.now c.args.patience);
-}
+pub returns-clause-report : goal.returns-clause-report
+returns-clause-report g c =
+    let does = rw c.new.ensures at c.read_taking.ensures in
+    continues the_token _ (read_ref c.args.buf.now c.args.patience) (Ref _) _ _ (ap (answering Ref) does)
+
+pub returns-clause-piece : goal.returns-clause-piece
+returns-clause-piece g c =
+    let does = rw c.new.ensures at c.read_taking.ensures in
+    subst (PieceCall ref_reading _ _ _) (sym does) (refs_one_piece _ _ _)
+
+pub returns-clause-quick : goal.returns-clause-quick
+returns-clause-quick g c =
+    let does = rw c.new.ensures at c.read_taking.ensures in
+    subst (AsQuickXmlRef c.args.self.now c.args.buf.now c.args.patience) (sym does) (ref_as c.args.self.now c.args.buf.now c.args.patience)

@@ -7,14 +7,14 @@ use Rattle.quick.proofs.Answers.{text_as}
 use Rattle.model.specs.Call.{text_reading}
 use Rattle.split.specs.Reads.{PieceCall}
 use Rattle.split.proofs.Calls.{texts_one_piece}
-use Rattle.reader.specs.State.{state_of, the_token}
+use Rattle.reader.specs.State.{the_token}
 use Rattle.reader.proofs.reader.Reader.read_text.Goals as goal
 
-pub returns : goal.returns
-returns g c = record {
-  does = c.read_text_inner.ensures;
-  report = continues the_token (state_of g.S.Source.stream c.args.self.now) (read_text c.args.buf.now c.args.patience)
-      (Text c.read_text_inner.result) (state_of g.S.Source.stream c.read_text_inner.new.self) c.read_text_inner.new.buf (ap (answering Text) c.read_text_inner.ensures);
-  piece = subst (PieceCall text_reading _ _ _) (sym c.read_text_inner.ensures) (texts_one_piece _ _ _);
-  quick = subst (AsQuickXmlText (state_of g.S.Source.stream c.args.self.now) c.args.buf.now c.args.patience) (sym c.read_text_inner.ensures) (text_as (state_of g.S.Source.stream c.args.self.now) c.args.buf.now c.args.patience);
-}
+pub returns-clause-report : goal.returns-clause-report
+returns-clause-report g c = continues the_token _ (read_text c.args.buf.now c.args.patience) (Text _) _ _ (ap (answering Text) c.read_taking.ensures)
+
+pub returns-clause-piece : goal.returns-clause-piece
+returns-clause-piece g c = subst (PieceCall text_reading _ _ _) (sym c.read_taking.ensures) (texts_one_piece _ _ _)
+
+pub returns-clause-quick : goal.returns-clause-quick
+returns-clause-quick g c = subst (AsQuickXmlText c.args.self.now c.args.buf.now c.args.patience) (sym c.read_taking.ensures) (text_as c.args.self.now c.args.buf.now c.args.patience)
