@@ -1,4 +1,4 @@
-// What a gathering makes of a call's answer.
+// The questions before any look, and what a call answers to a gathering.
 #![tactic(auto)]
 
 mod piece;
@@ -28,7 +28,7 @@ pub fn pends(wanted: Pending, opening: Option<u8>) -> Result<(), Error>
 }
 
 // The questions that a call goes through before it looks at the source, by what it wants to be pending and its least buffer.
-// Five values and no struct: two are the reader's, the others the call's, and a reader's `admit` alone joins them.
+// Five values and no struct: two are the reader's, the others the call's, and `Reader::admit` alone joins them.
 pub fn admit(
     position: u64,
     size: usize,

@@ -74,7 +74,7 @@ where
     Ok(answer)
 }
 
-// The same of a call that takes what it writes.
+// What a call that takes what it writes answers to a gathering whose bytes are `piece`.
 pub fn taken_answer<E: PieceEnd + Drop>(
     piece: &[u8],
     ending: Result<E, Error>,
@@ -86,7 +86,7 @@ where
     answer(piece, ending).map_err(|error| Refusal::taken_all(error, piece.len()))
 }
 
-// The same of a call that spends a token, whose `<` was taken before.
+// What a call that spends a token, whose `<` was taken before, answers to such a gathering.
 pub fn spent_answer<E: PieceEnd + Drop, T>(
     piece: &[u8],
     ending: Result<E, Error>,

@@ -17,6 +17,7 @@ bang (CData s) = cdata s
 bang (Comment s) = bang_comment s
 bang (DocType s) = dtd s
 
+-- the law that every implementation of Parser owes
 pub bang-prefix : (b : BangType) → Prefix (bang b)
 bang-prefix (CData s) = prefix doubled_step cdata_due s
 bang-prefix (Comment s) = prefix bang_comment_step bang_comment_due s

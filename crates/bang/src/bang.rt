@@ -27,6 +27,7 @@ impl BangType {
     }
 }
 
+// Both methods match on the kind, with no trait object: the kinds are closed, and a scanner is copied and has no heap.
 impl Parser for BangType {
     ghost scan = { bang };
 

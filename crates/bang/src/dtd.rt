@@ -37,6 +37,7 @@ impl Held {
         let len = self.len + 1;
         bytes[self.len] = b;
         let held = &bytes[..len];
+        // comparisons, since in the arms of a match on the slice the prover does not have its bytes
         if held == b"?".as_slice() {
             DtdParser::InPi(PiParser::default())
         } else if held == b"!--".as_slice() {

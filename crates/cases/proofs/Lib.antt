@@ -1,4 +1,5 @@
 mod Filled
-pub mod Parts
+mod Parts
 mod Numbers
-pub mod Lists
+mod Lists
+mod Written

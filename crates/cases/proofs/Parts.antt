@@ -1,5 +1,5 @@
 -- What stands before a separator and behind it.
-use Rattle.std.proofs.Common.{◌≡◌, ℕ, ◌-◌, Bool, true, false, cond, ltb, List, ◌++◌, length, take, drop, Some, None, refl, ap, ◌∙◌, append_assoc, arith, length-drop, take_all, position}
+use Rattle.std.proofs.Common.{◌≡◌, ℕ, ◌-◌, Bool, true, false, cond, ltb, List, length, take, drop, Some, None, refl, ap, arith, length-drop, take_all, position}
 use borrow.Author.Tests.{ltb-false}
 use Rattle.std.specs.List.{before_first, position_or_len}
 
@@ -20,7 +20,3 @@ module _ {A : Type 0} (p : A → Bool) (xs : List A) where
 
 pub all_behind : {A : Type 0} (i : ℕ) (xs : List A) → take (length xs - i) (drop i xs) ≡ drop i xs
 all_behind i xs = take_all (length xs - i) (drop i xs) (simp length-drop (omega arith))
-
--- two parts written behind `was`
-pub written : (was front mark id one two : List ℕ) → one ≡ was ++ id → id ≡ front → two ≡ one ++ mark → two ≡ was ++ (front ++ mark)
-written was front mark id one two a b c = c ∙ ap (λ x. x ++ mark) (a ∙ ap (λ x. was ++ x) b) ∙ append_assoc was front mark

@@ -1,7 +1,16 @@
 -- The fields of a line.
 use Rattle.std.specs.Prelude.{ℕ, cond, List, [], ◌∷◌, length, Some, None, Option, ◌==◌}
 use Rattle.std.specs.List.{list_any}
-use Rattle.cases.specs.Words.{bound, split, decimal_of}
+use Rattle.cases.specs.Words.{before, behind, bound, split, decimal_of}
+
+-- the next field, which may not be empty, and what stands behind it
+abbrev pub filled : List ℕ → Option (List ℕ) → Option (List ℕ × Option (List ℕ))
+filled [] rest = None
+filled (b ∷ bs) rest = Some (b ∷ bs, rest)
+
+-- a tab is 9
+abbrev pub field_of : Option (List ℕ) → Option (List ℕ × Option (List ℕ))
+field_of line = bound line (λ text. filled (before 9 text) (behind 9 text))
 
 -- none is empty; a tab is 9
 abbrev pub fields_of : List ℕ → Option (List (List ℕ))

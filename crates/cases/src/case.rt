@@ -1,12 +1,13 @@
 // A case: what the reader stands on, and the calls that are made.
 ghost use Rattle.std.specs.Prelude.{◌≡◌, map};
 ghost use Rattle.cases.specs.Cases.{meant_case, case_in, case_of};
-ghost use Rattle.cases.specs.Fields.{fields_of, limits_of};
+ghost use Rattle.std.specs.Option.{option_map};
+ghost use Rattle.cases.specs.Fields.{field_of, fields_of, limits_of};
 ghost use Rattle.cases.specs.Read.{Reads};
 
 use super::bad::Bad;
 use super::step::Step;
-use super::words::{decimal, entries, hex, list, parts};
+use super::words::{cut_at, decimal, entries, hex, list, parts};
 use std::alloc::Global;
 
 #[derive(Drop)]
@@ -19,6 +20,17 @@ pub struct Case<'a> {
     pub script: Vec<Step>,
     pub narrow: u16,
     pub quota: u32,
+}
+
+// The next field, which may not be empty, and what stands behind it.
+pub fn field(line: Option<&[u8]>) -> Option<(&[u8], Option<&[u8]>)>
+    ensures { option_map (λ f. (f.0.now, option_map (λ x. x.now) f.1)) result ≡ field_of (option_map (λ x. x.now) line.entry) }
+{
+    let (text, rest) = cut_at(line?, b'\t');
+    if text.is_empty() {
+        return None;
+    }
+    Some((text, rest))
 }
 
 // The fields of a line, with tabs between them, none of which may be empty.

@@ -9,7 +9,8 @@ mod step;
 mod words;
 
 pub use bad::Bad;
-pub use case::{Case, fields, parse};
+pub use case::{Case, field, fields, parse};
+pub use line::{case_line, write_bad};
 pub use lines::answer_lines;
 pub use step::{Call, LONGEST, Spending, Step};
-pub use words::{Word, list};
+pub use words::{Word, cut_at, hex, list};

@@ -9,7 +9,7 @@ use std::alloc::{AllocError, Global};
 use std::str;
 
 // What stands before the first `separator`, and what behind it, where there is one.
-pub(crate) fn cut_at(text: &[u8], separator: u8) -> (&[u8], Option<&[u8]>)
+pub fn cut_at(text: &[u8], separator: u8) -> (&[u8], Option<&[u8]>)
     ensures front { result.0.now ≡ before separator text.now }
     ensures rest { option_map (λ x. x.now) result.1 ≡ behind separator text.now }
     ensures shorter { IfSome result.1 (λ rest. length rest.now < length text.now) }
@@ -59,9 +59,10 @@ fn pairs(heap: Global, text: &[u8]) -> Result<Vec<u8>, Bad>
 }
 
 // Pairs of hexadecimal digits, or `-` for none.
-pub(crate) fn hex(heap: Global, text: &[u8]) -> Result<Vec<u8>, Bad>
+pub fn hex(heap: Global, text: &[u8]) -> Result<Vec<u8>, Bad>
     ensures { Reads vec_items result (none_or pairs_of text.now) }
 {
+    // `entries` has another reading behind `-`: one function for both would need a clause on a closure, longer than these arms
     match text {
         b"-" => Ok(Vec::new(heap)),
         digits => pairs(heap, digits),
@@ -122,6 +123,7 @@ pub fn list<W: Word>(heap: Global, text: &[u8]) -> Result<Vec<W>, Bad>
     ensures { Reads (λ v. map W.view v.items) result (every W.meaning (split 44 text.now)) }
 {
     let mut all = Vec::new(heap);
+    // a `for` over the split itself gets no well-typed proof in a generic function: tried with a closure, a named test and `next`
     for entry in parts(heap, text, b',')?.as_slice() {
         all.push(W::read(heap, *entry)?)?;
     }

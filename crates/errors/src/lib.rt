@@ -39,7 +39,8 @@ pub enum Error {
 }
 
 impl Error {
-    // The number under which the rules list this refusal.
+    // The number under which the rules and the recorded answers list this refusal.
+    // Written out: some variants hold a value, so that the enum is not cast to a number, as SyntaxError is.
     pub fn number(&self) -> u8
         ensures { result ≡ number_of self.now }
     {

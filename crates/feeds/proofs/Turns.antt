@@ -1,33 +1,26 @@
 -- What one more run keeps.
-use Rattle.std.proofs.Common.{◌≡◌, ℕ, ◌+◌, ◌<◌, ◌≤◌, List, [], ◌∷◌, ◌++◌, map, length, get_or, take, drop, IsErrAnd, Some, None, Ok, Err, Option, Result, sym, refl, ap, ◌∙◌, subst, append_assoc, append-nil, arith}
+use Rattle.std.proofs.Common.{◌≡◌, ℕ, ◌+◌, ◌<◌, ◌≤◌, List, [], ◌∷◌, ◌++◌, map, length, get_or, drop, Some, None, Option, sym, refl, ap, ◌∙◌, append_assoc, append-nil}
 use mathlib.Core.Path.{fun_ext}
-use Rattle.std.specs.List.{flat_map}
-use Rattle.std.proofs.lemmas.List.{drop_more, drop_all, take_more, flat_map_more}
+use Rattle.std.proofs.lemmas.List.{drop_more, drop_all}
 use Rattle.parser.specs.Scan.{Verdict, stop, unclosed, answer, Meaning, Due, Fed}
 use Rattle.parser.specs.declared.errors.SyntaxError.{SyntaxError}
-use Rattle.cases.specs.Read.{Reads}
-use Rattle.cases.specs.declared.bad.Bad.{Bad}
-use Rattle.cases.specs.declared.bad.Bad.TheVariants.{NoCase, NoMemory}
 use Rattle.feeds.specs.Answers.{after, up_to_stop, places_of, due_for, unless_stop, fault_of}
 
-clash : {A B : Type 0} (a : A) → None ≡ Some a → B
-clash a h = let z : ◌≡◌ {A = ℕ} 0 1 = cc in absurd (omega arith)
-
 open_places : (v : Verdict) (more : List (Option ℕ)) → None ≡ answer v → up_to_stop v more ≡ None ∷ more
-open_places (stop k) more e = clash k e
+open_places (stop k) more e = cc
 open_places (unclosed due) more e = refl
 
 open_fault : (v : Verdict) (fault : Option SyntaxError) → None ≡ answer v → unless_stop v fault ≡ fault
-open_fault (stop k) fault e = clash k e
+open_fault (stop k) fault e = cc
 open_fault (unclosed due) fault e = refl
 
 stop_places : (v : Verdict) (more : List (Option ℕ)) (k : ℕ) → Some k ≡ answer v → up_to_stop v more ≡ Some k ∷ []
 stop_places (stop j) more k e = ap (λ x. x ∷ []) (sym e)
-stop_places (unclosed due) more k e = clash k (sym e)
+stop_places (unclosed due) more k e = cc
 
 stop_fault : (v : Verdict) (fault : Option SyntaxError) (k : ℕ) → Some k ≡ answer v → unless_stop v fault ≡ None
 stop_fault (stop j) fault k e = refl
-stop_fault (unclosed due) fault k e = clash k (sym e)
+stop_fault (unclosed due) fault k e = cc
 
 due_fault : (v : Verdict) (content : List ℕ) (f : SyntaxError) → Due v content f → due_for content v ≡ Some f
 due_fault (stop k) content f d = absurd d
@@ -83,17 +76,3 @@ module _ {V : Type 0} (view : V → List ℕ) (old : Meaning) (content : List �
 
   pub start : Turn old 0 []
   start = record { places = refl; fault = refl }
-
--- one more run behind those that are joined
-pub join_next : {V : Type 0} (view : V → List ℕ) (opening done new : List ℕ) (runs : List V) (i : ℕ) (x : V) → i < length runs → x ≡ get_or runs i x
-    → done ≡ opening ++ flat_map view (take i runs) → new ≡ done ++ view x → new ≡ opening ++ flat_map view (take (i + 1) runs)
-join_next view opening done new runs i x lt is d n =
-    n ∙ ap (λ l. l ++ view x) d ∙ flat_map_more view opening (take i runs) x
-    ∙ ap (λ y. opening ++ flat_map view (take i runs ++ y ∷ [])) is ∙ ap (λ l. opening ++ flat_map view l) (sym (take_more runs i x lt))
-
--- a reading that goes on with what another refused
-pub passed : {X Y A B : Type 0} (view : X → A) (other : Y → B) (r : Result X Bad) (bad : Bad) (meant : Option A) (part : Option B) → IsErrAnd r (λ e. e ≡ bad)
-    → Reads other (Err bad) part → (part ≡ None → meant ≡ None) → Reads view r meant
-passed view other (Ok x) bad meant part e h k = absurd e
-passed view other (Err b) NoCase meant part e h k = subst (λ x. Reads view (Err x) meant) (sym e) (k h)
-passed view other (Err b) NoMemory meant part e h k = subst (λ x. Reads view (Err x) meant) (sym e) tt

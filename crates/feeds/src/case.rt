@@ -24,6 +24,7 @@ pub struct Case<'a> {
     pub runs: Vec<Vec<u8>>,
 }
 
+// The scanners in a state. They are types of other crates, so this one can not give them `TryFrom`.
 fn elem_in(state: &[u8]) -> Option<ElementParser>
     ensures { result ≡ elem_of state.now }
 {

@@ -6,7 +6,8 @@ use Rattle.std.proofs.lemmas.Bool.{ltb-true, ltb-false}
 use Rattle.parser.specs.Scan.{Verdict, stop, unclosed, answer, less, Meaning, Prefix, Fed}
 use Rattle.model.specs.Cut.{Cut, before, through, nowhere, behind_one, behind, verdict_cut, scan_cut}
 use Rattle.model.proofs.Cuts.{behind-before, behind_through}
-use Rattle.gather.specs.Scanned.{Scanned, not_yet, before_byte, with_byte}
+use Rattle.gather.specs.Scanned.{Scanned}
+use Rattle.gather.specs.declared.cutter.Scan.TheVariants.{Before, Through}
 
 module _ {E : Type 0} where
   behind_swap : (n : ℕ) (c : Cut E) → behind n (behind_one c) ≡ behind_one (behind n c)
@@ -38,9 +39,9 @@ module _ {E : Type 0} where
 
   module _ {old new : List ℕ → Cut E} {run : List ℕ} {i : ℕ} (seen : Seen old run i new) where
     pub seen_end : length run ≤ i → i ≤ length run → Scanned old new run None
-    seen_end h l =
+    seen_end h l more =
         let e : i ≡ length run = omega arith in
-        not_yet (λ more. seen.here more ∙ ap (λ xs. behind i (new (xs ++ more))) (drop_all i run h) ∙ ap (λ n. behind n (new more)) e)
+        seen.here more ∙ ap (λ xs. behind i (new (xs ++ more))) (drop_all i run h) ∙ ap (λ n. behind n (new more)) e
 
     module _ (within : i < length run) where
       at_byte : (more : List ℕ) → old (run ++ more) ≡ behind i (new (get_or run i 0 ∷ (drop (i + 1) run ++ more)))
@@ -53,13 +54,13 @@ module _ {E : Type 0} where
             ∙ (let e : suc i ≡ i + 1 = omega arith in ap (λ n. behind n (later (drop (i + 1) run ++ more))) e);
       }
 
-      pub seen-before : (any : List ℕ → Cut E) (e : E) → ((zs : List ℕ) → new (get_or run i 0 ∷ zs) ≡ before 0 e) → Scanned old any run (Some (i, e))
+      pub seen-before : (any : List ℕ → Cut E) (e : E) → ((zs : List ℕ) → new (get_or run i 0 ∷ zs) ≡ before 0 e) → Scanned old any run (Some (Before i e))
       seen-before any e h =
-          before_byte i e within (λ more. at_byte more ∙ ap (behind i) (h (drop (i + 1) run ++ more)) ∙ behind-before i e)
+          (within, λ more. at_byte more ∙ ap (behind i) (h (drop (i + 1) run ++ more)) ∙ behind-before i e)
 
-      pub seen_through : (any : List ℕ → Cut E) (e : E) → ((zs : List ℕ) → new (get_or run i 0 ∷ zs) ≡ through 0 e) → Scanned old any run (Some (i + 1, e))
+      pub seen_through : (any : List ℕ → Cut E) (e : E) → ((zs : List ℕ) → new (get_or run i 0 ∷ zs) ≡ through 0 e) → Scanned old any run (Some (Through i e))
       seen_through any e h =
-          with_byte i e within (λ more. at_byte more ∙ ap (behind i) (h (drop (i + 1) run ++ more)) ∙ behind_through i e)
+          (within, λ more. at_byte more ∙ ap (behind i) (h (drop (i + 1) run ++ more)) ∙ behind_through i e)
 
 -- a scanner's stop, and its none, cut what follows too
 module _ (old new : Meaning) (run : List ℕ) (prefix : Prefix old) where
@@ -67,12 +68,12 @@ module _ (old new : Meaning) (run : List ℕ) (prefix : Prefix old) where
   stops (stop j) k e = let same : k ≡ j = cc in ap stop (sym same)
   stops (unclosed due) k e = cc
 
-  pub scan_stop : (k : ℕ) → Fed old new run (Some k) → Scanned (scan_cut old) (scan_cut new) run (Some (k + 1, Ok tt))
+  pub scan_stop : (k : ℕ) → Fed old new run (Some k) → Scanned (scan_cut old) (scan_cut new) run (Some (Through k (Ok tt)))
   scan_stop k fed =
       let within : k < length run = fed.inside in
       let at = stops (old run) k fed.place in
       let le : k + 1 ≤ length run = omega arith in
-      with_byte k (Ok tt) within (λ more. ap verdict_cut ((prefix run k at).1 (run ++ more) (take-append-le (k + 1) run more le)))
+      (within, λ more. ap verdict_cut ((prefix run k at).1 (run ++ more) (take-append-le (k + 1) run more le)))
 
   open_cut : None ≡ answer (old run) → (more : List ℕ) (v : Verdict) → old (run ++ more) ≡ v
       → verdict_cut v ≡ behind (length run) (verdict_cut (less (length run) v))
@@ -92,5 +93,5 @@ module _ (old new : Meaning) (run : List ℕ) (prefix : Prefix old) where
           ap (λ n. through n (Ok tt)) (sym whole) ∙ sym (behind_through_more (length run) (k - length run) (Ok tt))
 
   pub scan_open : Fed old new run None → Scanned (scan_cut old) (scan_cut new) run None
-  scan_open fed =
-      not_yet (λ more. open_cut fed.place more (old (run ++ more)) refl ∙ ap (λ v. behind (length run) (verdict_cut v)) (sym (fed.further refl more)))
+  scan_open fed more =
+      open_cut fed.place more (old (run ++ more)) refl ∙ ap (λ v. behind (length run) (verdict_cut v)) (sym (fed.further refl more))

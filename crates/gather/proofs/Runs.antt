@@ -1,19 +1,18 @@
 -- What a run adds to a gathering.
-use Rattle.std.proofs.Common.{◌≡◌, ℕ, zero, suc, ◌+◌, ◌-◌, ◌<◌, ◌≤◌, true, false, leb, List, [], ◌∷◌, ◌++◌, map, length, get_or, take, drop, Some, Ok, Err, Option, Result, sym, refl, ap, ◌∙◌, append_assoc, append-nil, arith, length-append}
+use Rattle.std.proofs.Common.{◌≡◌, ℕ, zero, suc, ◌+◌, ◌-◌, ◌<◌, ◌≤◌, true, false, leb, List, [], ◌∷◌, ◌++◌, map, length, get_or, take, drop, Some, None, Ok, Err, Option, Result, sym, refl, ap, ◌∙◌, append_assoc, append-nil, arith, length-append}
 use lib.Seq.{append_snoc}
 use Rattle.std.proofs.lemmas.List.{drop_more, drop_all, drop-drop, take_more, length-take-le, length-drop}
 use Rattle.std.proofs.lemmas.Bool.{cond_both, leb-true, leb-false, lt-ltb, le-ltb}
-use Rattle.source.specs.declared.fault.Look.TheVariants.{Ready}
-use Rattle.source.specs.Stream.{Item, byte, Tail, Stream, bytes_in, bytes_of, lead, seen, passed}
-use Rattle.source.proofs.Streams.{split-lead, passed_ready}
+use Rattle.source.specs.Stream.{Item, byte, Tail, bytes_in}
 use Rattle.model.specs.Cut.{Cut, before, through, nowhere, behind_one, behind}
 use Rattle.model.specs.Gather.{Gathered, gathered, next, on_byte, gather}
-use Rattle.model.specs.Peek.{Awaited, await, awaited}
 use Rattle.errors.specs.declared.Error.{Error}
 use Rattle.errors.specs.declared.Error.TheVariants.{BufferFull}
 use Rattle.gather.specs.Resume.{reach, fitted, resumed}
-use Rattle.gather.specs.Scanned.{Scanned, not_yet, before_byte, with_byte}
 use Rattle.model.proofs.Cuts.{behind-before, behind_through}
+use Rattle.gather.specs.Scanned.{Scanned}
+use Rattle.gather.specs.declared.cutter.Scan.{Scan}
+use Rattle.gather.specs.declared.cutter.Scan.TheVariants.{Before, Through}
 use Rattle.gather.proofs.Cuts.{behind-add, behind-before_more, behind_through_more}
 
 pub bytes_in_run : (run : List ℕ) (is : List Item) → bytes_in (map byte run ++ is) ≡ run ++ bytes_in is
@@ -94,9 +93,10 @@ module _ {E : Type 0} where
         there [] h = absurd (omega arith)
         there (x ∷ xs) h = refl
 
-    ends_through : (run : List ℕ) (k : ℕ) (e : E) (so_far : List ℕ) → k < length run → k + 1 + length so_far ≤ size
-        → gather (through k e) size so_far p (map byte run ++ is) t ≡ gathered (so_far ++ take (k + 1) run) (map byte (drop (k + 1) run) ++ is) (Ok e)
+    ends_through : (run : List ℕ) (k : ℕ) (e : E) (so_far : List ℕ) → k < length run → suc k + length so_far ≤ size
+        → gather (through k e) size so_far p (map byte run ++ is) t ≡ gathered (so_far ++ take (suc k) run) (map byte (drop (suc k) run) ++ is) (Ok e)
     ends_through run k e so_far h l =
+        let more : k + 1 ≡ suc k = omega arith in
         let long = length-append so_far (take k run) in
         let front : length (take k run) ≡ k = length-take-le k run (omega arith) in
         ap (λ c. gather c size so_far p (map byte run ++ is) t) (sym (behind_through k e))
@@ -106,71 +106,49 @@ module _ {E : Type 0} where
         (gather (through 0 e) size ((so_far ++ take k run) ++ get_or run k 0 ∷ []) p (map byte (drop (k + 1) run) ++ is) t))
         (lt-ltb (length (so_far ++ take k run)) size (omega arith))
         ∙ ap (λ xs. gathered xs (map byte (drop (k + 1) run) ++ is) (Ok e)) (append_assoc so_far (take k run) (get_or run k 0 ∷ []) ∙ ap (λ xs. so_far ++ xs) (sym (take_more run k 0 h)))
+        ∙ ap (λ n. gathered (so_far ++ take n run) (map byte (drop n run) ++ is) (Ok e)) more
 
     module _ (cut : List ℕ → Cut E) (new : List ℕ → Cut E) (run so_far : List ℕ) (room : ℕ) (fits : room + length so_far ≡ size) where
       abbrev Goes : ℕ × Option (Result E Error) → Type 0
       Goes q = gather (cut (run ++ bytes_in is)) size so_far p (map byte run ++ is) t ≡ onward new so_far run q
 
-      within : {r : Option (ℕ × E)} → Scanned cut new run r → (reach r (length run)).0 ≤ room → Goes (reach r (length run))
-      within (not_yet s) h =
+      within : (r : Option (Scan E)) → Scanned cut new run r → (reach r (length run)).0 ≤ room → Goes (reach r (length run))
+      within None s h =
           ap (λ c. gather c size so_far p (map byte run ++ is) t) (s (bytes_in is))
           ∙ skip (length run) run (new (bytes_in is)) so_far (omega arith) (omega arith)
           ∙ ap (λ bs. gather (new bs) size (so_far ++ take (length run) run) p (map byte (drop (length run) run) ++ is) t)
           (sym (bytes_in_run (drop (length run) run) is ∙ ap (λ xs. xs ++ bytes_in is) (drop_all (length run) run (omega arith))))
-      within (before_byte k e i s) h =
-          ap (λ c. gather c size so_far p (map byte run ++ is) t) (s (bytes_in is)) ∙ ends_before run k e so_far i (omega arith)
-      within (with_byte k e i s) h =
-          ap (λ c. gather c size so_far p (map byte run ++ is) t) (s (bytes_in is)) ∙ ends_through run k e so_far i (omega arith)
+      within (Some (Before k e)) s h =
+          ap (λ c. gather c size so_far p (map byte run ++ is) t) (s.1 (bytes_in is)) ∙ ends_before run k e so_far s.0 (omega arith)
+      within (Some (Through k e)) s h =
+          ap (λ c. gather c size so_far p (map byte run ++ is) t) (s.1 (bytes_in is)) ∙ ends_through run k e so_far s.0 (omega arith)
 
-      beyond : {r : Option (ℕ × E)} → Scanned cut new run r → room < (reach r (length run)).0 → Goes (room, Some (Err BufferFull))
-      beyond (not_yet s) h =
+      beyond : (r : Option (Scan E)) → Scanned cut new run r → room < (reach r (length run)).0 → Goes (room, Some (Err BufferFull))
+      beyond None s h =
           let more : room + suc (length run - suc room) ≡ length run = omega arith in
           ap (λ c. gather c size so_far p (map byte run ++ is) t)
           (s (bytes_in is) ∙ ap (λ n. behind n (new (bytes_in is))) (sym more) ∙ behind-add room (suc (length run - suc room)) (new (bytes_in is)))
           ∙ spills room run (behind (suc (length run - suc room)) (new (bytes_in is))) so_far (wants_behind (behind (length run - suc room) (new (bytes_in is)))) (omega arith) fits
-      beyond (before_byte k e i s) h =
+      beyond (Some (Before k e)) s h =
+          let within = s.0 in
           let more : room + suc (k - suc room) ≡ k = omega arith in
           ap (λ c. gather c size so_far p (map byte run ++ is) t)
-          (s (bytes_in is) ∙ ap (λ n. before n e) (sym more) ∙ sym (behind-before_more room (suc (k - suc room)) e))
+          (s.1 (bytes_in is) ∙ ap (λ n. before n e) (sym more) ∙ sym (behind-before_more room (suc (k - suc room)) e))
           ∙ spills room run (before (suc (k - suc room)) e) so_far (wants_behind (before (k - suc room) e)) (omega arith) fits
-      beyond (with_byte k e i s) h =
+      beyond (Some (Through k e)) s h =
+          let within = s.0 in
           let more : room + (k - room) ≡ k = omega arith in
           ap (λ c. gather c size so_far p (map byte run ++ is) t)
-          (s (bytes_in is) ∙ ap (λ n. through n e) (sym more) ∙ sym (behind_through_more room (k - room) e))
+          (s.1 (bytes_in is) ∙ ap (λ n. through n e) (sym more) ∙ sym (behind_through_more room (k - room) e))
           ∙ spills room run (through (k - room) e) so_far (wants_through (k - room) e) (omega arith) fits
 
-      pub ran : (r : Option (ℕ × E)) → Scanned cut new run r → Goes (fitted r (length run) room)
+      pub ran : (r : Option (Scan E)) → Scanned cut new run r → Goes (fitted r (length run) room)
       ran r s =
           cond_both (leb (reach r (length run)).0 room) _ _ Goes
-          (λ y. within s (leb-true (reach r (length run)).0 room y))
-          (λ y. beyond s (leb-false (reach r (length run)).0 room y))
+          (λ y. within r s (leb-true (reach r (length run)).0 room y))
+          (λ y. beyond r s (leb-false (reach r (length run)).0 room y))
 
 pub drop-further : (m n : ℕ) (xs ys : List ℕ) → m ≤ n → drop m xs ≡ drop m ys → drop n xs ≡ drop n ys
 drop-further m n xs ys h e =
     let k : m + (n - m) ≡ n = omega arith in
     ap (λ i. drop i xs) (sym k) ∙ sym (drop-drop (n - m) m xs) ∙ ap (drop (n - m)) e ∙ drop-drop (n - m) m ys ∙ ap (λ i. drop i ys) k
-
--- a run's first byte is the byte awaited
-await_run : (run : List ℕ) (rest : List Item) (p : ℕ) (t : Tail) → 0 < length run
-    → await p (map byte run ++ rest) t ≡ awaited (Ok (Some (get_or run 0 0))) (map byte run ++ rest) p
-await_run [] rest p t h = absurd (omega arith)
-await_run (b ∷ bs) rest p t h = refl
-
--- the first byte that a source shows is the byte awaited
-awaits_shown : (s : Stream) (ready : ℕ) (run : List ℕ) (p : ℕ) → ready ≤ lead s.items → run ≡ take ready (bytes_of s) → length run ≡ ready → 1 ≤ ready
-    → await p s.items s.tail ≡ awaited (Ok (Some (get_or run 0 0))) s.items p
-awaits_shown s ready run p bounded shown long some =
-    let split : s.items ≡ map byte run ++ drop ready s.items = rw shown (split-lead ready s.items bounded) in
-    ap (λ is. await p is s.tail) split ∙ await_run run (drop ready s.items) p s.tail (omega arith)
-    ∙ ap (λ is. awaited (Ok (Some (get_or run 0 0))) is p) (sym split)
-
--- the same from the start of a loop that passes waits, at a look that shows bytes
-pub awaits_ready : {start : Awaited} {t : Tail} {now : Stream} {ready : ℕ} {run : List ℕ} (old : Stream) (p : ℕ) → (start ≡ await p old.items t) × (old.tail ≡ t)
-    → now ≡ passed old → Ready ≡ seen old → ready ≤ lead now.items → run ≡ take ready (bytes_of now) → length run ≡ ready → 1 ≤ ready
-    → (start ≡ awaited (Ok (Some (get_or run 0 0))) now.items p) × (now.tail ≡ t)
-awaits_ready {t = t} {now = now} {ready = ready} {run = run} old p inv after answer bounded shown long some =
-    let same : now ≡ old = after ∙ passed_ready old answer in
-    let tail = ap (λ s. s.tail) same ∙ inv.1 in (
-      inv.0 ∙ ap (λ s. await p s.items t) (sym same) ∙ ap (await p now.items) (sym tail) ∙ awaits_shown now ready run p bounded shown long some,
-      tail,
-    )

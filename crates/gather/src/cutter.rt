@@ -6,14 +6,21 @@ ghost use Rattle.gather.specs.Scanned.{Scanned};
 use model::{RefEnd, TextEnd};
 use parser::{Parser, SyntaxError};
 
+// Where a piece ends in a run: before the byte at a place, or with it.
+#[derive(Clone, Copy, Debug)]
+pub enum Scan<E> {
+    Before(usize, E),
+    Through(usize, E),
+}
+
 // Says where a piece ends, fed with one run after another.
 pub trait Cutter {
     type End;
 
     ghost cuts: { Self → List ℕ → Cut Self.End };
 
-    // Where the piece ends in the run, if it does: how many bytes of the run belong to it, and what ended it.
-    fn scan(&mut self, run: &[u8]) -> Option<(usize, Self::End)>
+    // Where the piece ends in the run, if it does, and what ended it.
+    fn scan(&mut self, run: &[u8]) -> Option<Scan<Self::End>>
         ensures { Scanned (cuts self.old) (cuts self.new) run.now result };
 
     // What ended the piece where the source ends.
@@ -30,11 +37,11 @@ impl Cutter for Text {
 
     ghost cuts = { λ _. text_cut };
 
-    fn scan(&mut self, run: &[u8]) -> Option<(usize, TextEnd)> {
+    fn scan(&mut self, run: &[u8]) -> Option<Scan<TextEnd>> {
         for (i, b) in run.iter().enumerate() {
             match *b {
-                b'<' => return Some((i, TextEnd::Markup)),
-                b'&' => return Some((i, TextEnd::Ref)),
+                b'<' => return Some(Scan::Before(i, TextEnd::Markup)),
+                b'&' => return Some(Scan::Before(i, TextEnd::Ref)),
                 _ => {}
             }
         }
@@ -66,14 +73,14 @@ impl Cutter for Reference {
 
     ghost cuts = { λ c. ref_from c.begun };
 
-    fn scan(&mut self, run: &[u8]) -> Option<(usize, RefEnd)> {
+    fn scan(&mut self, run: &[u8]) -> Option<Scan<RefEnd>> {
         for (i, b) in run.iter().enumerate() {
             match (self.begun, *b) {
                 (false, b'&') => self.begun = true,
-                (false, _) => return Some((i, RefEnd::NotRef)),
-                (true, b';') => return Some((i + 1, RefEnd::Semicolon)),
-                (true, b'&') => return Some((i, RefEnd::Ref)),
-                (true, b'<') => return Some((i, RefEnd::Markup)),
+                (false, _) => return Some(Scan::Before(i, RefEnd::NotRef)),
+                (true, b';') => return Some(Scan::Through(i, RefEnd::Semicolon)),
+                (true, b'&') => return Some(Scan::Before(i, RefEnd::Ref)),
+                (true, b'<') => return Some(Scan::Before(i, RefEnd::Markup)),
                 (true, _) => {}
             }
         }
@@ -94,9 +101,9 @@ impl<P: Parser + Drop> Cutter for Scanner<P> {
 
     ghost cuts = { λ c. scan_cut (P.Parser.scan c.0) };
 
-    fn scan(&mut self, run: &[u8]) -> Option<(usize, Result<(), SyntaxError>)> {
+    fn scan(&mut self, run: &[u8]) -> Option<Scan<Result<(), SyntaxError>>> {
         let i = self.0.feed(run)?;
-        Some((i + 1, Ok(())))
+        Some(Scan::Through(i, Ok(())))
     }
 
     fn at_end(self, content: &[u8]) -> Result<(), SyntaxError> {

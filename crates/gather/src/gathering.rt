@@ -6,18 +6,17 @@ ghost use Rattle.model.specs.Peek.{await, awaited};
 ghost use Rattle.gather.specs.Named.{named};
 ghost use Rattle.gather.specs.Resume.{resumed, reach, fitted, is_byte};
 
-use super::cutter::Cutter;
+use super::cutter::{Cutter, Scan};
 use bang::BangType;
 use errors::Error;
 use parser::SyntaxError;
 use source::{Look, Source};
 
-// The clauses below say one after another that what stands behind the source's bytes stays: a source is its caller's, so that no
-// type of ours can say it once.
+// Each function below says that the tail of the stream stays: a source is of its caller's type, so no type of ours can say it once.
 
 // How many bytes of a run of `len` go into `room`, and how the piece ends there if it does.
 fn fit<E: Drop>(
-    found: Option<(usize, E)>,
+    found: Option<Scan<E>>,
     len: usize,
     room: usize,
 ) -> (usize, Option<Result<E, Error>>)
@@ -27,14 +26,20 @@ fn fit<E: Drop>(
     ensures room { result.0 ≤ room }
     ensures whole { result.1 ≡ None → (found ≡ None) × (result.0 ≡ len) }
 {
-    match found {
-        Some((n, end)) if n <= room => (n, Some(Ok(end))),
-        None if len <= room => (len, None),
-        _ => (room, Some(Err(Error::BufferFull))),
+    let (n, ending) = match found {
+        None => (len, None),
+        Some(Scan::Before(k, end)) => (k, Some(Ok(end))),
+        Some(Scan::Through(k, end)) => (k + 1, Some(Ok(end))),
+    };
+    if n <= room {
+        (n, ending)
+    } else {
+        (room, Some(Err(Error::BufferFull)))
     }
 }
 
 // Copies what belongs to the piece of the run that is shown, and takes it from the source.
+// The buffer is lent by the caller, so its filled length goes beside it.
 fn copy_run<S: Source, C: Cutter>(
     source: &mut S,
     cutter: &mut C,

@@ -4,5 +4,5 @@
 mod cutter;
 mod gathering;
 
-pub use cutter::{Cutter, Reference, Scanner, Text};
+pub use cutter::{Cutter, Reference, Scan, Scanner, Text};
 pub use gathering::{await_byte, bang_type, gather};

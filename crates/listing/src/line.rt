@@ -1,6 +1,7 @@
 ghost use Rattle.std.specs.Prelude.{Some};
 ghost use Rattle.listing.specs.Text.{line_text};
 
+use errors::Error;
 use piece::Kind;
 use std::fmt;
 
@@ -11,8 +12,8 @@ pub enum Line {
     Piece(Kind, u64, usize),
     // the end, at a position
     End(u64),
-    // a refusal: the position before it, and its number
-    Fault(u64, u8),
+    // a refusal: the position before it, and why
+    Fault(u64, Error),
 }
 
 // Three fields, with tabs between them.
@@ -23,7 +24,7 @@ impl fmt::Display for Line {
         match *self {
             Line::Piece(kind, position, written) => write!(f, "{kind}\t{position}\t{written}"),
             Line::End(position) => write!(f, "end\t{position}\t0"),
-            Line::Fault(position, number) => write!(f, "fault\t{position}\t{number}"),
+            Line::Fault(position, error) => write!(f, "fault\t{position}\t{}", error.number()),
         }
     }
 }

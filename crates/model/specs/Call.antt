@@ -112,6 +112,7 @@ abbrev pub taking : {A : Type 0} → ℕ → Result A Error → Result A Refusal
 taking w (Ok a) = Ok a
 taking w (Err e) = Err (refusal e w w)
 
+-- such a call, by where its piece ends, its least buffer and what it makes of a whole piece
 abbrev pub taking_reading : {E A : Type 0} → (List ℕ → Cut E) → ℕ → (List ℕ → E → Result A Error) → Reading E (Result A Refusal)
 taking_reading cut least piece = record {
   cut = cut;

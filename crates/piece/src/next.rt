@@ -48,7 +48,7 @@ fn spent(refused: Refused<OpeningToken>) -> Refusal
             taken: refusal.taken + 1,
             ..refusal
         },
-        Refused::Kept(_, _) => unreachable(),
+        Refused::Kept(_, _) => unreachable!(),
     }
 }
 

@@ -1,8 +1,6 @@
 ghost use Rattle.std.specs.Prelude.{◌≡◌, ◌^◌, ◌<◌, ◌≤◌, [], length, take as front, None};
 ghost use Rattle.model.specs.Call.{state, left_with, outcome, admitted, reads, taking_reading, whole, text_reading, ref_reading, with_reading};
 ghost use Rattle.model.specs.Bang.{bangs};
-ghost use Rattle.model.specs.Gather.{gather as gathering};
-ghost use Rattle.source.specs.Stream.{bytes_of};
 ghost use Rattle.model.specs.Peek.{await, peeks, abandons};
 ghost use Rattle.model.specs.History.{Continues, event, read_text, read_ref, peek_one, read_with, read_bang_element, abandon};
 ghost use Rattle.quick.specs.Answers.{AsQuickXmlText, AsQuickXmlRef, AsQuickXmlPeek, AsQuickXmlWith, AsQuickXmlBang};
@@ -189,6 +187,7 @@ impl<S: Source> Reader<S> {
     ) -> Result<usize, Refused<OpeningToken>>
         ensures { outcome result self.new buf.new ≡ reads (with_reading token (P.Parser.scan parser)) self.old buf.old patience }
     {
+        // no map_err, here and below: its closure would take the token where nothing is refused
         if let Err(error) = self.admit(buf.len(), Pending::Opening, 1) {
             return Err(Refused::Kept(error, token));
         }

@@ -78,14 +78,8 @@ fn show_error<W: fmt::Write>(error: &Error, f: &mut fmt::Formatter<W>) -> fmt::R
         Error::Syntax(syntax) => write!(f, "Syntax:{syntax:?}"),
         Error::Io(Fault::Broken(code)) => write!(f, "Io:{code}"),
         Error::Io(Fault::Quota(quota)) => write!(f, "Quota:{quota}"),
-        Error::Utf8(utf8) => {
-            let front = utf8.valid_up_to;
-            write!(f, "Utf8:{front}")
-        }
-        other => {
-            let number = other.number();
-            write!(f, "No:{number}")
-        }
+        Error::Utf8(utf8) => write!(f, "Utf8:{}", utf8.valid_up_to),
+        other => write!(f, "No:{}", other.number()),
     }
 }
 
@@ -130,10 +124,7 @@ impl fmt::Display for Reply {
     fn fmt<W: fmt::Write>(&self, f: &mut fmt::Formatter<W>) -> fmt::Result {
         match self {
             Reply::Single(answer) => show_answer(answer, f),
-            Reply::Next(Ok(Some(piece))) => {
-                let kind = piece.kind;
-                write!(f, "{kind}")
-            }
+            Reply::Next(Ok(Some(piece))) => write!(f, "{}", piece.kind),
             Reply::Next(Ok(None)) => f.write_str("end"),
             Reply::Next(Err(refusal)) => show_error(&refusal.error, f),
         }

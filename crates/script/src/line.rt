@@ -46,9 +46,9 @@ pub(crate) fn write_place(lines: &mut Vec<u8>, position: u64, left: usize) -> io
 
 // The last four fields, where lines have them all.
 pub(crate) fn write_told(lines: &mut Vec<u8>, told: &Told, pending: bool) -> io::Result<()> {
-    let number = told.number;
-    let written = told.written;
-    let taken = told.taken;
-    let open = pending as u8;
-    write!(lines, "\t{number}\t{written}\t{taken}\t{open}")
+    write!(
+        lines,
+        "\t{}\t{}\t{}\t{}",
+        told.number, told.written, told.taken, pending as u8
+    )
 }

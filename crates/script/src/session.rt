@@ -121,7 +121,7 @@ impl<S: Source> Session<S> {
         answer
     }
 
-    // Makes a call.
+    // Makes a call. It is a value and no closure, since it is read from a script.
     pub(crate) fn make(&mut self, call: Call, buf: &mut [u8], patience: u32) -> Reply {
         Reply::Single(match call {
             Call::Next => return Reply::Next(next_piece(&mut self.reader, buf, patience)),

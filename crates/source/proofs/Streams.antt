@@ -1,5 +1,6 @@
 -- Laws of streams. Assumes nothing.
-use Rattle.std.proofs.Common.{◌≡◌, ℕ, zero, suc, ◌-◌, ◌<◌, ◌≤◌, List, [], ◌∷◌, ◌++◌, map, length, take, drop, sym, refl, ap, ◌∙◌, arith}
+use Rattle.std.proofs.Common.{◌≡◌, ℕ, zero, suc, ◌-◌, ◌<◌, ◌≤◌, Bool, List, [], ◌∷◌, ◌++◌, map, length, take, drop, sym, refl, ap, ◌∙◌, arith, Option, Some, None, MatchOption, is_some, if◌then◌else◌}
+use Rattle.std.specs.List.{IsSplitAt}
 use Rattle.std.proofs.lemmas.List.{drop-map}
 use Rattle.source.specs.declared.fault.Fault.{Fault}
 use Rattle.source.specs.declared.fault.Look.TheVariants.{Ready}
@@ -39,6 +40,13 @@ passed-plain (x ∷ xs) = refl
 
 pub without-plain : (n : ℕ) (xs : List ℕ) → without n (plain xs) ≡ plain (drop n xs)
 without-plain n xs = ap (λ is. record { items = is; tail = end }) (drop-map byte n xs)
+
+-- of a slice that f makes a stream of, the first n bytes split off, or none where it has fewer
+pub IsSplitAt-without : {B : Type 0} (now : B → List ℕ) (f : List ℕ → Stream) (n : ℕ) (xs ys : List ℕ) (part : Option B) {took : Bool}
+    → (n ≤ length xs → without n (f xs) ≡ f (drop n xs)) → MatchOption part (ys ≡ xs) (λ x. IsSplitAt xs n (now x) ys)
+    → took ≡ is_some part → f ys ≡ (if took then without n (f xs) else f xs)
+IsSplitAt-without now f n xs ys None law cut e = ap f cut ∙ ap (λ b. if b then without n (f xs) else f xs) (sym e)
+IsSplitAt-without now f n xs ys (Some x) law cut e = ap f cut.2 ∙ sym (law cut.0) ∙ ap (λ b. if b then without n (f xs) else f xs) (sym e)
 
 -- a look finds no byte where none comes before the next wait
 pub not_ready : {P : Type 0} (is : List Item) (t : Tail) → lead is ≡ 0 → seen_in is t ≡ Ready → P

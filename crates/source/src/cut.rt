@@ -86,10 +86,6 @@ impl<'a> Source for Cut<'a> {
         ensures count { cut_ready self.new ≡ (if result then cut_ready self.old - n else cut_ready self.old) }
         ensures frames { frames self.new ≡ (if result then less n (frames self.old) else frames self.old) }
     {
-        let Some(shown) = self.shown.get(n..) else {
-            return false;
-        };
-        self.shown = shown;
-        true
+        self.shown.split_off(..n).is_some()
     }
 }

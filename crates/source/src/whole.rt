@@ -40,10 +40,6 @@ impl<'a> Source for Whole<'a> {
     }
 
     fn take(&mut self, n: usize) -> bool {
-        let Some(rest) = self.rest.get(n..) else {
-            return false;
-        };
-        self.rest = rest;
-        true
+        self.rest.split_off(..n).is_some()
     }
 }

@@ -15,3 +15,5 @@ mod scanners;
 mod sources;
 #[cfg(test)]
 mod texts;
+#[cfg(test)]
+mod words;

@@ -74,19 +74,25 @@ const CLOSING: [(&[u8], &str); 8] = [
     (b"<a b=\">", "fault\t0\t18\n"),
 ];
 
+// Whether each report of a table is listed as the lines beside it.
+fn lists_as(heap: Global, table: &[(&[u8], &str)]) -> Result<bool, AllocError> {
+    for &(report, lines) in table {
+        if listing(heap, report)?.as_str() != lines {
+            return Ok(false);
+        }
+    }
+    Ok(true)
+}
+
 #[test]
 fn reports(rt: HostRuntime) -> Result<(), Fail> {
-    for &(report, lines) in &LISTINGS {
-        assert!(rt; listing(rt.alloc(), report)?.as_str() == lines);
-    }
+    assert!(rt; lists_as(rt.alloc(), &LISTINGS)?);
     Ok(())
 }
 
 #[test]
 fn closing_faults(rt: HostRuntime) -> Result<(), Fail> {
-    for &(report, lines) in &CLOSING {
-        assert!(rt; listing(rt.alloc(), report)?.as_str() == lines);
-    }
+    assert!(rt; lists_as(rt.alloc(), &CLOSING)?);
     Ok(())
 }
 

@@ -9,7 +9,7 @@ use parser::Parser;
 use reader::{OpeningToken, Reader};
 use source::Source;
 
-// One of a reader's calls, with the token and the scanner that it is given.
+// One of a reader's calls, with the token and the scanner that it is given: a value, since the theorems range over calls.
 pub enum Call<P> {
     ReadText,
     ReadRef,

@@ -1,4 +1,4 @@
-use Rattle.std.proofs.Common.{◌≡◌, ℕ, ◌+◌, ◌-◌, ◌≤◌, true, List, ◌++◌, map, length, take, drop, sym, ap, ◌∙◌, arith, length-append, length-drop, length-take}
+use Rattle.std.proofs.Common.{◌≡◌, ℕ, ◌+◌, ◌-◌, ◌≤◌, true, List, ◌++◌, map, length, take, drop, sym, ap, ◌∙◌, arith, length-take}
 use borrow.Rule.Slice.PartMut.{put_mid}
 use Rattle.std.proofs.lemmas.Bool.{le-leb, cond-true}
 use Rattle.std.proofs.lemmas.List.{drop-append-le, drop-map, length-map}
@@ -10,8 +10,8 @@ use Rattle.gather.specs.Resume.{resumed}
 use Rattle.gather.proofs.Runs.{bytes_in_run, ran, onward}
 use Rattle.gather.proofs.gathering.copy_run.Goals as goal
 
-pub returns : goal.returns
-returns g c =
+pub returns-clause-goes : goal.returns-clause-goes
+returns-clause-goes g c p =
     let src = g.S.Source.stream c.args.source.now in
     let ready = g.S.Source.ready c.args.source.now in
     let f = g.C.Cutter.cuts c.args.cutter.now in
@@ -42,23 +42,16 @@ returns g c =
     take-put_mid at k buf ys (at + n) (omega arith) at_in ∙ ap (λ y. take at buf ++ y) copied in
     let so_far : length (take at buf) ≡ at = length-take at buf ∙ omega arith in
     let bytes : bytes_in src.items ≡ run ++ bytes_in rest = ap bytes_in split ∙ bytes_in_run run rest in
-    record {
-      goes = λ p.
-          ap (λ bs. gather (f bs) size (take at buf) p src.items src.tail) bytes
-          ∙ ap (λ is. gather (f (run ++ bytes_in rest)) size (take at buf) p is src.tail) split
-          ∙ ran size p rest src.tail f F run (take at buf) (size - at) (omega arith) c.scan.result c.scan.ensures
-          ∙ ap (onward size p rest src.tail F (take at buf) run) (sym c.fit-n.ensures.value)
-          ∙ ap (λ x. resumed q.1 F size x p (map byte (drop n run) ++ rest) src.tail) (sym front)
-          ∙ ap (λ is. resumed q.1 F size (take (at + n) (put_mid at k buf ys)) p is src.tail) (sym items);
-      tail = ap (λ s. s.tail) taken;
-      fits = omega arith;
-      rest = drop-put_mid at k buf ys (at + n) (omega arith) at_in (omega arith);
-      less = λ e.
-          let all = (c.fit-n.ensures.whole e).1 in
-          let some = c.requires.some in
-          let before = ap length split ∙ length-append (map byte run) rest in
-          let after = ap length items ∙ length-append (map byte (drop n run)) rest in
-          let gone = length-map (drop n run) byte in
-          omega (arith, length-drop n run);
-      grows = omega arith;
-    }
+    ap (λ bs. gather (f bs) size (take at buf) p src.items src.tail) bytes
+    ∙ ap (λ is. gather (f (run ++ bytes_in rest)) size (take at buf) p is src.tail) split
+    ∙ ran size p rest src.tail f F run (take at buf) (size - at) (omega arith) c.scan.result c.scan.ensures
+    ∙ ap (onward size p rest src.tail F (take at buf) run) (sym c.fit-n.ensures.value)
+    ∙ ap (λ x. resumed q.1 F size x p (map byte (drop n run) ++ rest) src.tail) (sym front)
+    ∙ ap (λ is. resumed q.1 F size (take (at + n) (put_mid at k buf ys)) p is src.tail) (sym items)
+
+pub returns-clause-rest : goal.returns-clause-rest
+returns-clause-rest g c =
+    let at = c.args.written in
+    let n = c.fit-n.result.0 in
+    let n_room : n ≤ length c.args.buf.now - at = c.fit-n.ensures.room in
+    drop-put_mid at (at + n - at) c.args.buf.now c.copy_from_slice.new.self (at + n) (omega arith) c.requires.within (omega arith)

@@ -1,10 +1,8 @@
-use Rattle.std.proofs.Common.{sym, ap, ◌∙◌}
-use Rattle.std.proofs.lemmas.List.{take_rest}
 use Rattle.source.specs.Stream.{plain}
-use Rattle.source.proofs.Streams.{without-plain}
+use Rattle.source.proofs.Streams.{without-plain, IsSplitAt-without}
 use Rattle.source.proofs.whole.WholeSource.take.Goals as goal
 
 pub returns-clause-after : goal.returns-clause-after
 returns-clause-after c =
     let xs = c.args.self.now.rest.now in
-    ap plain (c.in-Some.ensures.lookup.0.2 ∙ take_rest xs c.args.n) ∙ sym (without-plain c.args.n xs)
+    IsSplitAt-without (λ x. x.now) plain c.args.n xs _ c.split_off.result (λ _. without-plain c.args.n xs) c.split_off.ensures.cases c.is_some.ensures
