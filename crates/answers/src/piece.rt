@@ -63,7 +63,7 @@ impl PieceEnd for Result<(), SyntaxError> {
     }
 }
 
-// What is answered to a gathering whose bytes are `piece`.
+// What is answered to a gathering whose bytes are `piece`. They are the buffer's front, lent beside the ending, so no struct holds both.
 fn answer<E: PieceEnd + Drop>(piece: &[u8], ending: Result<E, Error>) -> Result<E::Answer, Error>
 where
     E::Answer: Drop,

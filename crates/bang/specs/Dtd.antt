@@ -1,6 +1,7 @@
 -- The scanner of a document type declaration. Assumes nothing.
-use Rattle.std.specs.Prelude.{ℕ, ◌+◌, false, cond, ◌||◌, List, [], ◌∷◌, length, take, codes, ◌==◌, nat_le, slice_set}
+use Rattle.std.specs.Prelude.{Option, Some, None, ℕ, ◌+◌, false, cond, ◌||◌, List, [], ◌∷◌, length, take, codes, ◌==◌, nat_le, slice_set}
 use Rattle.std.specs.Str.{bytes_eq}
+use Rattle.std.specs.Option.{unwrap_or}
 use Rattle.parser.specs.Scan.{Meaning}
 use Rattle.parser.specs.Bytes.{Move, halt, goes, machine}
 use Rattle.parser.specs.Element.{element_step}
@@ -24,15 +25,18 @@ hold h b = record { bytes = slice_set h.bytes h.len b; len = h.len + 1 }
 abbrev pub held_none : Held
 held_none = record { bytes = 0 ∷ 0 ∷ 0 ∷ 0 ∷ 0 ∷ 0 ∷ 0 ∷ 0 ∷ 0 ∷ []; len = 0 }
 
+-- the markup that the bytes held begin, where they say it
+abbrev pub kind_of : List ℕ → Option DtdParser
+kind_of bs =
+    cond (bytes_eq bs (codes "?")) (Some (InPi (after_question false)))
+    (cond (bytes_eq bs (codes "!--")) (Some (InComment Seen0))
+    (cond (bytes_eq bs (codes "!ELEMENT")) (Some Plain)
+    (cond (bytes_eq bs (codes "!ENTITY") || (bytes_eq bs (codes "!ATTLIST") || bytes_eq bs (codes "!NOTATION"))) (Some (InQuoteSensitive Outside))
+    None)))
+
 -- what the bytes held, `b` the last of them, lead to
 abbrev pub decide : List ℕ → ℕ → Held → DtdParser
-decide bs b h =
-    cond (bytes_eq bs (codes "?")) (InPi (after_question false))
-    (cond (bytes_eq bs (codes "!--")) (InComment Seen0)
-    (cond (bytes_eq bs (codes "!ELEMENT")) Plain
-    (cond (bytes_eq bs (codes "!ENTITY") || (bytes_eq bs (codes "!ATTLIST") || bytes_eq bs (codes "!NOTATION"))) (InQuoteSensitive Outside)
-    (cond (b == 62) Inside
-    (cond (nat_le 9 (length bs)) Plain (Undecided h))))))
+decide bs b h = unwrap_or (kind_of bs) (cond (b == 62) Inside (cond (nat_le 9 (length bs)) Plain (Undecided h)))
 
 -- no more than eight bytes are held
 abbrev pub undecided : Held → ℕ → DtdParser

@@ -1,5 +1,5 @@
 ghost use Rattle.std.specs.Prelude.{◌≡◌};
-ghost use Rattle.bang.specs.Dtd.{dtd, dtd_step, held_none, undecided, dtd_due};
+ghost use Rattle.bang.specs.Dtd.{dtd, dtd_step, held_none, undecided, kind_of, dtd_due};
 ghost use Rattle.bang.specs.Examples.{Examples};
 ghost use Rattle.bang.specs.declared.dtd.DtdParser.TheVariants.{Before};
 ghost use Rattle.parser.specs.Machines;
@@ -36,26 +36,27 @@ impl Held {
         let mut bytes = self.bytes;
         let len = self.len + 1;
         bytes[self.len] = b;
-        let held = &bytes[..len];
-        // comparisons, since in the arms of a match on the slice the prover does not have its bytes
-        if held == b"?".as_slice() {
-            DtdParser::InPi(PiParser::default())
-        } else if held == b"!--".as_slice() {
-            DtdParser::InComment(CommentParser::default())
-        } else if held == b"!ELEMENT".as_slice() {
-            DtdParser::Plain
-        } else if held == b"!ENTITY".as_slice()
-            || held == b"!ATTLIST".as_slice()
-            || held == b"!NOTATION".as_slice()
-        {
-            DtdParser::InQuoteSensitive(ElementParser::default())
-        } else if b == b'>' {
-            DtdParser::Inside
-        } else if len == 9 {
-            DtdParser::Plain
-        } else {
-            DtdParser::Undecided(Held { bytes, len })
+        match kind(&bytes[..len]) {
+            Some(kind) => kind,
+            None if b == b'>' => DtdParser::Inside,
+            None if len == 9 => DtdParser::Plain,
+            None => DtdParser::Undecided(Held { bytes, len }),
         }
+    }
+}
+
+// The markup that these bytes begin, where they say it.
+fn kind(held: &[u8]) -> Option<DtdParser>
+    ensures { result ≡ kind_of held.now }
+{
+    match held {
+        b"?" => Some(DtdParser::InPi(PiParser::default())),
+        b"!--" => Some(DtdParser::InComment(CommentParser::default())),
+        b"!ELEMENT" => Some(DtdParser::Plain),
+        b"!ENTITY" | b"!ATTLIST" | b"!NOTATION" => {
+            Some(DtdParser::InQuoteSensitive(ElementParser::default()))
+        }
+        _ => None,
     }
 }
 

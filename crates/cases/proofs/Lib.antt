@@ -3,3 +3,4 @@ mod Parts
 mod Numbers
 mod Lists
 mod Written
+pub mod Spelled

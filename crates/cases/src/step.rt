@@ -60,7 +60,8 @@ pub struct Step {
     pub patience: u32,
 }
 
-// The call of a name, and whether it goes on.
+// The call of a name, and whether it goes on: two values, so that neither has a `TryFrom`.
+#[tactic(auto, using(crate::proofs::Spelled::spelled))]
 fn named(name: &[u8]) -> Option<(Call, bool)>
     ensures { result ≡ look_up names name.now }
 {

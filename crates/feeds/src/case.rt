@@ -25,6 +25,7 @@ pub struct Case<'a> {
 }
 
 // The scanners in a state. They are types of other crates, so this one can not give them `TryFrom`.
+#[tactic(auto, using(cases::proofs::Spelled::spelled))]
 fn elem_in(state: &[u8]) -> Option<ElementParser>
     ensures { result ≡ elem_of state.now }
 {
@@ -46,6 +47,7 @@ fn pi_in(state: &[u8]) -> Option<PiParser>
     }
 }
 
+#[tactic(auto, using(cases::proofs::Spelled::spelled))]
 fn comment_in(state: &[u8]) -> Option<CommentParser>
     ensures { result ≡ comment_of state.now }
 {
@@ -57,6 +59,7 @@ fn comment_in(state: &[u8]) -> Option<CommentParser>
     }
 }
 
+#[tactic(auto, using(cases::proofs::Spelled::spelled))]
 fn dtd_in(state: &[u8]) -> Option<DtdParser>
     ensures { result ≡ dtd_of state.now }
 {
@@ -66,7 +69,8 @@ fn dtd_in(state: &[u8]) -> Option<DtdParser>
     }
 }
 
-// The scanner of a name, in a state; the last have no state to be given.
+// The scanner of a name, in a state; the last have no state to be given. It is made of two texts, so it has no `TryFrom`.
+#[tactic(auto, using(cases::proofs::Spelled::spelled))]
 fn scanner_named(name: &[u8], state: &[u8]) -> Option<Scanner>
     ensures { result ≡ scanner_of name.now state.now }
 {

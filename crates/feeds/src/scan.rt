@@ -16,7 +16,8 @@ pub struct Answers {
     pub fault: Option<SyntaxError>,
 }
 
-// Feeds the runs one after another, up to the one with the stop. `content` is the piece from its `<`.
+// Feeds the runs one after another, up to the one with the stop. `content` is the piece from its `<`. It is not `feed_runs`, which
+// tells nothing where there is no run.
 fn feed_all<P: Parser + Drop>(
     heap: Global,
     mut parser: P,

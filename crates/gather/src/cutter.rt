@@ -28,7 +28,8 @@ pub trait Cutter {
         ensures { result ≡ at_end (cuts self []) content.now };
 }
 
-// Text: it ends before markup or a reference.
+// Text: it ends before markup or a reference. Here and below the loop has the index of a byte, since the end that it finds differs
+// from byte to byte.
 #[derive(Drop)]
 pub struct Text;
 

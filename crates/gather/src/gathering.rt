@@ -12,7 +12,8 @@ use errors::Error;
 use parser::SyntaxError;
 use source::{Look, Source};
 
-// Each function below says that the tail of the stream stays: a source is of its caller's type, so no type of ours can say it once.
+// Each function below says that the tail of the stream stays: what is gathered or awaited is told by the items alone, since no call
+// changes a tail.
 
 // How many bytes of a run of `len` go into `room`, and how the piece ends there if it does.
 fn fit<E: Drop>(
@@ -133,7 +134,8 @@ pub fn await_byte<S: Source>(source: &mut S, patience: u32) -> (Result<Option<u8
     }
 }
 
-// Passes waits until there is a byte, which names what `<!` begins and stays: its scanner, and the patience left.
+// Passes waits until there is a byte, which names what `<!` begins and stays: its scanner, and the patience left. A
+// rule of the project: a loop of its own, which yields the kind by `break` or refuses.
 pub fn bang_type<S: Source>(source: &mut S, patience: u32) -> Result<(BangType, u32), Error>
     ensures value { result ≡ named (await patience (S.Source.stream source.old).items (S.Source.stream source.old).tail) }
     ensures left { (S.Source.stream source.new).items ≡ (await patience (S.Source.stream source.old).items (S.Source.stream source.old).tail).left }
@@ -143,11 +145,11 @@ pub fn bang_type<S: Source>(source: &mut S, patience: u32) -> Result<(BangType, 
     let bang = loop {
         match source.look() {
             Look::Wait => left = left.checked_sub(1).ok_or(Error::Patience)?,
-            Look::End => return Err(Error::Syntax(SyntaxError::InvalidBangMarkup)),
+            Look::End => return Err(SyntaxError::InvalidBangMarkup.into()),
             Look::Fault(fault) => return Err(fault.into()),
             Look::Ready => {
                 let run = source.show();
-                break BangType::new(run[0]).ok_or(Error::Syntax(SyntaxError::InvalidBangMarkup))?;
+                break BangType::new(run[0]).ok_or(SyntaxError::InvalidBangMarkup)?;
             }
         }
     };

@@ -11,7 +11,9 @@ pub trait ByteParser {
         ensures { Moves (next self.old b) result self.new };
 }
 
-// Takes the bytes up to the one that ends the construct, and gives its place; none, where no byte does.
+// Takes the bytes up to the one that ends the construct, and gives its place; none, where no byte does. A rule of the project: the
+// run's elements are looked at one after another, with their index. Each scanner's `feed` is this call: for all at once, as one
+// impl, the fault that is due would be asked of `ByteParser` too.
 pub fn feed_bytes<P: ByteParser>(parser: &mut P, bytes: &[u8]) -> Option<usize>
     ensures { FedBytes P.next parser.old parser.new bytes.now result }
 {

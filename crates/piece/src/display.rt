@@ -4,7 +4,7 @@ ghost use Rattle.piece.specs.Shown.{Shows, shown_told, show_told};
 use super::kinds::{Kind, Piece};
 use errors::Error;
 
-// A piece with its bytes, which are the front of the buffer.
+// A piece with its bytes, which are the front of the buffer. A rule of the project: an enum beside `Kind`, each case with its bytes.
 #[derive(Clone, Copy)]
 pub enum Shown<'a> {
     Text(&'a [u8]),

@@ -61,7 +61,8 @@ impl<S: Source> Reader<S> {
         self.opening
     }
 
-    // Takes the bytes before the next `<`, `&` or the end.
+    // Takes the bytes before the next `<`, `&` or the end. Here and below buffer and patience are one call's, lent and given to it
+    // alone, so no struct holds them.
     pub fn read_text(&mut self, buf: &mut [u8], patience: u32) -> Result<ReadText, Refusal>
         ensures does { outcome result self.new buf.new ≡ reads text_reading self.old buf.old patience }
         ensures report { Continues the_token self.old (event (read_text buf.old patience) (Answer.Text result) buf.new) self.new }

@@ -72,7 +72,8 @@ impl Reply {
     }
 }
 
-// As docs/REPLAY.md writes it: errors and answers are other crates' types, which print themselves in another form or not at all.
+// As docs/REPLAY.md writes it: errors and answers are other crates' types, which print themselves in another form or not at all. A
+// type of ours around each, to have `Display`, would be no plainer than these functions.
 fn show_error<W: fmt::Write>(error: &Error, f: &mut fmt::Formatter<W>) -> fmt::Result {
     match error {
         Error::Syntax(syntax) => write!(f, "Syntax:{syntax:?}"),

@@ -32,7 +32,8 @@ fn handed_back<A, F: FnOnce(Result<A, Refused<()>>) -> Answer<()>>(
     }
 }
 
-// Makes a call with a token: what it answers, and the token where it is handed back. The opening is then still pending.
+// Makes a call with a token: what it answers, and the token where it is handed back. The opening is then still pending. The call
+// is a value, read from a script.
 fn make_with<S: Source>(
     reader: &mut Reader<S>,
     token: OpeningToken,

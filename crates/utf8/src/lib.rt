@@ -73,6 +73,7 @@ pub fn check(bytes: &[u8]) -> Result<(), Utf8Error>
 {
     let mut valid_up_to = 0;
     let mut need = Need::Lead;
+    // a rule of the project: the run's elements, with their index
     for (i, b) in bytes.iter().enumerate() {
         need = next(need, *b).ok_or(Utf8Error { valid_up_to })?;
         if matches!(need, Need::Lead) {
