@@ -5,7 +5,10 @@ use lib.ListN.{length-reverse}
 use Rattle.parser.specs.Bytes.{Move, halt, goes}
 use Rattle.parser.specs.Words.{begins}
 use Rattle.parser.specs.First.{StopsAtFirst}
+use Rattle.parser.specs.Doubled.{doubled_step}
+use Rattle.parser.specs.Comment.{comment_due}
 use Rattle.parser.specs.declared.doubled.DoubledParser.{DoubledParser}
+use Rattle.parser.specs.declared.doubled.DoubledParser.TheVariants.{Seen0, Seen1, Seen2}
 use Rattle.parser.proofs.Firsts.{stops_at-first, pushed, seen, seen_step}
 use Rattle.bang.specs.Comment.{bang_comment, bang_comment_step, bang_comment_due, ends_bang_comment}
 use Rattle.bang.specs.declared.comment.BangCommentParser.{BangCommentParser}
@@ -13,7 +16,7 @@ use Rattle.bang.specs.declared.comment.BangCommentParser.TheVariants.{Opening0, 
 
 -- the comment's state after the bytes that are, read backwards, r
 abbrev dashes : List ℕ → DoubledParser 45
-dashes = seen 45
+dashes = seen doubled_step comment_due 45 Seen0 Seen1 Seen2 (λ b. refl) (λ b. refl) (λ b. refl)
 
 -- two dashes after two more bytes lie at place 4 or later
 late : (r s : List ℕ) (e : Bool) → (leb 4 (2 + length r) && (begins (codes "--") (r ++ s) && e)) ≡ (begins (codes "--") r && e)
@@ -41,7 +44,7 @@ bang_comment-first = stops_at-first bang_comment_step bang_comment_due ends_bang
     views [] b = refl
     views (x ∷ []) b = refl
     views (x ∷ y ∷ rest) b =
-        ap (λ (m : Move (DoubledParser 45)). (elim m as (λ _. Move BangCommentParser) [ halt ↦ halt | goes t ↦ goes (Text t) ])) (seen_step 45 (reverse rest) b)
+        ap (λ (m : Move (DoubledParser 45)). (elim m as (λ _. Move BangCommentParser) [ halt ↦ halt | goes t ↦ goes (Text t) ])) (seen_step doubled_step comment_due 45 Seen0 Seen1 Seen2 (λ b. refl) (λ b. refl) (λ b. refl) (reverse rest) b)
         ∙ through (begins (codes "--") (reverse rest) && eqb b 62) (dashes (b ∷ reverse rest))
         ∙ ap (λ v. cond v halt (goes (Text (dashes (b ∷ reverse rest))))) (sym (late (reverse rest) (y ∷ x ∷ []) (eqb b 62)) ∙ ap (λ n. leb 4 n && (begins (codes "--") (reverse rest ++ y ∷ x ∷ []) && eqb b 62)) (omega (arith, length-reverse rest)) ∙ ap (λ l. leb 4 (length (x ∷ y ∷ rest)) && (begins (codes "--") l && eqb b 62)) (sym (reverse_aux-eq rest (y ∷ x ∷ []))))
         ∙ ap (λ l. cond (ends_bang_comment (x ∷ y ∷ rest) b) halt (goes (Text (dashes l)))) (sym (pushed rest b))

@@ -4,7 +4,7 @@ ghost use Rattle.bang.specs.Comment.{bang_comment, bang_comment_step, ends_bang_
 ghost use Rattle.bang.specs.declared.comment.BangCommentParser.TheVariants.{Opening0};
 ghost use Rattle.parser.specs.Machines;
 
-use parser::{ByteParser, CommentParser, Parser, SyntaxError, feed_bytes};
+use parser::{ByteParser, CommentParser, Parser, SyntaxError, feed_machine};
 
 // Finds the `-->` that ends a comment, fed from the byte after `<!`. The dashes of the opening are none of those that end
 // the comment, so `<!-->` and `<!--->` are still open.
@@ -48,7 +48,7 @@ impl Parser for BangCommentParser {
     ghost prefix = { Machines.prefix bang_comment_step bang_comment_due };
 
     fn feed(&mut self, bytes: &[u8]) -> Option<usize> {
-        feed_bytes(self, bytes)
+        feed_machine(self, bytes)
     }
 
     fn eof_error(self, _content: &[u8]) -> SyntaxError {

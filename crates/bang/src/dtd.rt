@@ -4,7 +4,9 @@ ghost use Rattle.bang.specs.Examples.{Examples};
 ghost use Rattle.bang.specs.declared.dtd.DtdParser.TheVariants.{Before};
 ghost use Rattle.parser.specs.Machines;
 
-use parser::{ByteParser, CommentParser, ElementParser, Parser, PiParser, SyntaxError, feed_bytes};
+use parser::{
+    ByteParser, CommentParser, ElementParser, Parser, PiParser, SyntaxError, feed_machine,
+};
 
 // The bytes after `<` of a markup whose kind is not known yet: the first `len` of `bytes`. A scanner has no heap and is copied,
 // so they stand in an array with their number.
@@ -150,7 +152,7 @@ impl Parser for DtdParser {
     ghost prefix = { Machines.prefix dtd_step dtd_due };
 
     fn feed(&mut self, bytes: &[u8]) -> Option<usize> {
-        feed_bytes(self, bytes)
+        feed_machine(self, bytes)
     }
 
     fn eof_error(self, _content: &[u8]) -> SyntaxError {

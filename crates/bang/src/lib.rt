@@ -8,4 +8,4 @@ pub mod dtd;
 pub use bang::BangType;
 pub use comment::BangCommentParser;
 pub use dtd::{DtdParser, Held};
-pub use parser::CDataParser;
+pub use parser::{CDataParser, cdata};

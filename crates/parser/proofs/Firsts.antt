@@ -73,51 +73,46 @@ pi-first = stops_at-first pi_step pi_due (ends_after (codes "?")) (λ h. after_q
     views : (h : List ℕ) (b : ℕ) → pi_step (after_question (ends_with (codes "?") h)) b ≡ cond (ends_after (codes "?") h b) halt (goes (after_question (ends_with (codes "?") (h ++ b ∷ []))))
     views h b = ap (λ v. cond (ends_after (codes "?") h b) halt (goes (after_question v))) (sym (and-true (eqb b 63)) ∙ ap (begins (codes "?")) (sym (pushed h b)))
 
--- the scanner of two marks
-module _ (mark : ℕ) where
-  abbrev zero' : DoubledParser mark
-  zero' = Seen0
-
-  abbrev one : DoubledParser mark
-  one = Seen1
-
-  abbrev two : DoubledParser mark
-  two = Seen2
-
-  -- its state after the bytes that are, read backwards, r
-  abbrev pub seen : List ℕ → DoubledParser mark
+-- a machine of three states, by how many bytes c came right before, two for more
+module _ {S : Type 0} (step : S → ℕ → Move S) (due : S → List ℕ → SyntaxError) (c : ℕ) (zero' one two : S) (at_zero : (b : ℕ) → step zero' b ≡ cond (eqb b c) (goes one) (goes zero')) (at_one : (b : ℕ) → step one b ≡ cond (eqb b c) (goes two) (goes zero')) (at-two : (b : ℕ) → step two b ≡ cond (eqb b 62) halt (cond (eqb b c) (goes two) (goes zero'))) where
+  -- the state after the bytes that are, read backwards, r
+  abbrev pub seen : List ℕ → S
   seen [] = zero'
-  seen (x ∷ []) = cond (eqb x mark) one zero'
-  seen (x ∷ y ∷ r) = cond (eqb x mark) (cond (eqb y mark) two one) zero'
+  seen (x ∷ []) = cond (eqb x c) one zero'
+  seen (x ∷ y ∷ r) = cond (eqb x c) (cond (eqb y c) two one) zero'
 
   abbrev pub both : List ℕ → Bool
-  both r = begins (mark ∷ mark ∷ []) r
+  both r = begins (c ∷ c ∷ []) r
 
   on_none : (p : Bool) → cond p (goes one) (goes zero') ≡ goes (cond p one zero')
   on_none true = refl
   on_none false = refl
 
-  on_one : (b : ℕ) (v p : Bool) → eqb b mark ≡ p → doubled_step (cond v one zero') b ≡ cond ((v && false) && eqb b 62) halt (goes (cond p (cond v two one) zero'))
-  on_one b true true e = ap (λ p. cond p (goes two) (goes zero')) e
-  on_one b true false e = ap (λ p. cond p (goes two) (goes zero')) e
-  on_one b false true e = ap (λ p. cond p (goes one) (goes zero')) e
-  on_one b false false e = ap (λ p. cond p (goes one) (goes zero')) e
+  on_one : (b : ℕ) (v p : Bool) → eqb b c ≡ p → step (cond v one zero') b ≡ cond ((v && false) && eqb b 62) halt (goes (cond p (cond v two one) zero'))
+  on_one b true true e = at_one b ∙ ap (λ p. cond p (goes two) (goes zero')) e
+  on_one b true false e = at_one b ∙ ap (λ p. cond p (goes two) (goes zero')) e
+  on_one b false true e = at_zero b ∙ ap (λ p. cond p (goes one) (goes zero')) e
+  on_one b false false e = at_zero b ∙ ap (λ p. cond p (goes one) (goes zero')) e
 
-  on_two : (b : ℕ) (v w p : Bool) → eqb b mark ≡ p → doubled_step (cond v (cond w two one) zero') b ≡ cond ((v && (w && true)) && eqb b 62) halt (goes (cond p (cond v two one) zero'))
-  on_two b true true true e = ap (λ p. cond (eqb b 62) halt (cond p (goes two) (goes zero'))) e
-  on_two b true true false e = ap (λ p. cond (eqb b 62) halt (cond p (goes two) (goes zero'))) e
-  on_two b true false true e = ap (λ p. cond p (goes two) (goes zero')) e
-  on_two b true false false e = ap (λ p. cond p (goes two) (goes zero')) e
-  on_two b false w true e = ap (λ p. cond p (goes one) (goes zero')) e
-  on_two b false w false e = ap (λ p. cond p (goes one) (goes zero')) e
+  on_two : (b : ℕ) (v w p : Bool) → eqb b c ≡ p → step (cond v (cond w two one) zero') b ≡ cond ((v && (w && true)) && eqb b 62) halt (goes (cond p (cond v two one) zero'))
+  on_two b true true true e = at-two b ∙ ap (λ p. cond (eqb b 62) halt (cond p (goes two) (goes zero'))) e
+  on_two b true true false e = at-two b ∙ ap (λ p. cond (eqb b 62) halt (cond p (goes two) (goes zero'))) e
+  on_two b true false true e = at_one b ∙ ap (λ p. cond p (goes two) (goes zero')) e
+  on_two b true false false e = at_one b ∙ ap (λ p. cond p (goes two) (goes zero')) e
+  on_two b false w true e = at_zero b ∙ ap (λ p. cond p (goes one) (goes zero')) e
+  on_two b false w false e = at_zero b ∙ ap (λ p. cond p (goes one) (goes zero')) e
 
-  pub seen_step : (r : List ℕ) (b : ℕ) → doubled_step (seen r) b ≡ cond (both r && eqb b 62) halt (goes (seen (b ∷ r)))
-  seen_step [] b = on_none (eqb b mark)
-  seen_step (x ∷ []) b = on_one b (eqb x mark) (eqb b mark) refl
-  seen_step (x ∷ y ∷ r) b = on_two b (eqb x mark) (eqb y mark) (eqb b mark) refl
+  pub seen_step : (r : List ℕ) (b : ℕ) → step (seen r) b ≡ cond (both r && eqb b 62) halt (goes (seen (b ∷ r)))
+  seen_step [] b = at_zero b ∙ on_none (eqb b c)
+  seen_step (x ∷ []) b = on_one b (eqb x c) (eqb b c) refl
+  seen_step (x ∷ y ∷ r) b = on_two b (eqb x c) (eqb y c) (eqb b c) refl
 
-  pub doubled-first : (due : DoubledParser mark → List ℕ → SyntaxError) → StopsAtFirst (machine doubled_step due zero') (ends_after (mark ∷ mark ∷ []))
-  doubled-first due = stops_at-first doubled_step due (ends_after (mark ∷ mark ∷ [])) (λ h. seen (reverse h)) (λ h b. seen_step (reverse h) b ∙ ap (λ l. cond (both (reverse h) && eqb b 62) halt (goes (seen l))) (sym (pushed h b)))
+  pub two_first : StopsAtFirst (machine step due zero') (ends_after (c ∷ c ∷ []))
+  two_first = stops_at-first step due (ends_after (c ∷ c ∷ [])) (λ h. seen (reverse h)) (λ h b. seen_step (reverse h) b ∙ ap (λ l. cond (both (reverse h) && eqb b 62) halt (goes (seen l))) (sym (pushed h b)))
+
+-- the scanner of two marks
+pub doubled-first : (mark : ℕ) (due : DoubledParser mark → List ℕ → SyntaxError) → StopsAtFirst (machine doubled_step due Seen0) (ends_after (mark ∷ mark ∷ []))
+doubled-first mark due = two_first doubled_step due mark Seen0 Seen1 Seen2 (λ b. refl) (λ b. refl) (λ b. refl)
 
 -- a quote that can be open
 data Open : Option ℕ → Type 0 where

@@ -1,9 +1,9 @@
 -- The laws of every machine of bytes. Assumes nothing.
-use Rattle.std.specs.Prelude.{◌≡◌, ℕ, suc, ◌+◌, ◌<◌, List, [], ◌∷◌, ◌++◌, length, take, refl}
-use Rattle.std.proofs.Common.{sym, ap, subst, ◌∙◌, append_assoc, zero-add, add-one, arith}
-use Rattle.std.proofs.lemmas.List.{length_push}
-use Rattle.parser.specs.Scan.{Verdict, stop, unclosed, later, Prefix}
-use Rattle.parser.specs.Bytes.{Move, halt, goes, machine}
+use Rattle.std.specs.Prelude.{◌≡◌, ℕ, suc, ◌+◌, ◌<◌, ◌≤◌, Bool, true, false, List, [], ◌∷◌, ◌++◌, length, take, drop, Some, None, slice_index, refl}
+use Rattle.std.proofs.Common.{sym, ap, subst, ◌∙◌, append-nil, append_assoc, zero-add, add-one, arith, take_all}
+use Rattle.std.proofs.lemmas.List.{take_more, length-take-le, length_push, take-append-drop, drop_more}
+use Rattle.parser.specs.Scan.{Verdict, stop, unclosed, answer, less, later, Prefix, Fed}
+use Rattle.parser.specs.Bytes.{Move, halt, goes, machine, Moves}
 use Rattle.parser.specs.declared.errors.SyntaxError.{SyntaxError}
 
 later_zero : (v : Verdict) → later 0 v ≡ v
@@ -14,9 +14,21 @@ pub later-later : (m n : ℕ) (v : Verdict) → later m (later n v) ≡ later (m
 later-later m n (stop k) = ap stop (omega arith)
 later-later m n (unclosed due) = refl
 
+less-later : (n : ℕ) (v : Verdict) → less n (later n v) ≡ v
+less-later n (stop k) = ap stop (omega arith)
+less-later n (unclosed due) = refl
+
 pub later_stop : (v : Verdict) (k : ℕ) → later 1 v ≡ stop k → (j : ℕ) × (v ≡ stop j) × (k ≡ suc j)
 later_stop (stop j) k e = (j, refl, (let q : 1 + j ≡ k = cc in omega arith))
 later_stop (unclosed d) k e = absurd (cc)
+
+moves_true : {S : Type 0} (m : Move S) (r : Bool) (t : S) → Moves m r t → r ≡ true → m ≡ halt
+moves_true halt r t h e = refl
+moves_true (goes u) r t h e = absurd (cc)
+
+moves_false : {S : Type 0} (m : Move S) (r : Bool) (t : S) → Moves m r t → r ≡ false → m ≡ goes t
+moves_false halt r t h e = absurd (cc)
+moves_false (goes u) r t h e = ap goes (sym h.1)
 
 module _ {S : Type 0} (step : S → ℕ → Move S) (due : S → List ℕ → SyntaxError) where
   -- what a move means
@@ -49,6 +61,43 @@ module _ {S : Type 0} (step : S → ℕ → Move S) (due : S → List ℕ → Sy
   pub along_halt : (s t : S) (front : List ℕ) (b : ℕ) (zs : List ℕ) → Along s t front → step t b ≡ halt → machine step due s (front ++ b ∷ zs) ≡ stop (length front)
   along_halt s t front b zs h e =
       h (b ∷ zs) ∙ ap (later (length front)) (machine-cons t b zs halt e) ∙ ap stop (omega arith)
+
+  fed_halt : (s t u : S) (run : List ℕ) (i : ℕ) (r : Bool) → Along s t (take i run) → i < length run → Moves (step t (slice_index run i)) r u → r ≡ true → Fed (machine step due s) (machine step due u) run (Some i)
+  fed_halt s t u run i r along lt moves e =
+      let ends : step t (slice_index run i) ≡ halt = moves_true (step t (slice_index run i)) r u moves e in
+      let whole : take i run ++ (slice_index run i ∷ drop (i + 1) run) ≡ run = ap (λ l. take i run ++ l) (sym (drop_more run i 0 lt)) ∙ take-append-drop i run in
+      let at : stop (length (take i run)) ≡ machine step due s run = sym (along_halt s t (take i run) (slice_index run i) (drop (i + 1) run) along ends) ∙ ap (machine step due s) whole in
+      record {
+        place = ap answer (ap stop (sym (length-take-le i run (omega arith))) ∙ at);
+        inside = lt;
+        further = λ q. absurd (cc);
+      }
+
+  fed_all : (s t : S) (run : List ℕ) (i : ℕ) → Along s t (take i run) → length run ≤ i → Fed (machine step due s) (machine step due t) run None
+  fed_all s t run i h end =
+      let along : Along s t run = subst (Along s t) (take_all i run end) h in
+      record {
+        place = ap answer (sym (ap (machine step due s) (sym (append-nil run)) ∙ along []));
+        inside = tt;
+        further = λ _ ys. sym (less-later (length run) (machine step due t ys)) ∙ ap (less (length run)) (sym (along ys));
+      }
+
+  -- A loop over the places of a run came from s to t at place i. What it may answer there follows, so that only the next turn
+  -- is left to a proof.
+  pub record Reached (s t : S) (run : List ℕ) (i : ℕ) : Type 0 where
+    pub along : Along s t (take i run)
+    pub stops : (u : S) (r : Bool) → i < length run → Moves (step t (slice_index run i)) r u → r ≡ true → Fed (machine step due s) (machine step due u) run (Some i)
+    pub ends : length run ≤ i → Fed (machine step due s) (machine step due t) run None
+
+  pub reached : (s t : S) (run : List ℕ) (i : ℕ) → Along s t (take i run) → Reached s t run i
+  reached s t run i h = record { along = h; stops = λ u r. fed_halt s t u run i r h; ends = fed_all s t run i h }
+
+  pub reached_none : (s : S) (run : List ℕ) → Reached s s run 0
+  reached_none s run = reached s s run 0 (along_none s)
+
+  pub reached_more : (s t u : S) (run : List ℕ) (i : ℕ) (r : Bool) → Reached s t run i → i < length run → Moves (step t (slice_index run i)) r u → r ≡ false → Reached s u run (i + 1)
+  reached_more s t u run i r h lt moves e =
+      reached s u run (i + 1) (subst (Along s u) (sym (take_more run i 0 lt)) (along_more s t u (take i run) (slice_index run i) h.along (moves_false (step t (slice_index run i)) r u moves e)))
 
   stop_zero : (k : ℕ) → stop 0 ≡ stop k → k ≡ 0
   stop_zero k e = cc

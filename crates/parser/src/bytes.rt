@@ -1,5 +1,7 @@
-ghost use Rattle.std.specs.Prelude.{ℕ};
-ghost use Rattle.parser.specs.Bytes.{Move, Moves, FedBytes};
+ghost use Rattle.std.specs.Prelude.{ℕ, List};
+ghost use Rattle.parser.specs.Bytes.{Move, Moves, FedBytes, machine};
+ghost use Rattle.parser.specs.Scan.{Fed};
+ghost use Rattle.parser.specs.declared.errors.SyntaxError.{SyntaxError};
 
 // A scanner that looks at one byte after another.
 pub trait ByteParser {
@@ -12,8 +14,8 @@ pub trait ByteParser {
 }
 
 // Takes the bytes up to the one that ends the construct, and gives its place; none, where no byte does. A rule of the project: the
-// run's elements are looked at one after another, with their index. Each scanner's `feed` is this call: for all at once, as one
-// impl, the fault that is due would be asked of `ByteParser` too.
+// run's elements are looked at one after another, with their index. Each scanner's `feed` is this call, by `feed_machine`: for
+// all at once, as one impl, the fault that is due would be asked of `ByteParser` too.
 pub fn feed_bytes<P: ByteParser>(parser: &mut P, bytes: &[u8]) -> Option<usize>
     ensures { FedBytes P.next parser.old parser.new bytes.now result }
 {
@@ -23,4 +25,12 @@ pub fn feed_bytes<P: ByteParser>(parser: &mut P, bytes: &[u8]) -> Option<usize>
         }
     }
     None
+}
+
+// The same, said of the faults that the caller names: the contract of a `feed` is read off the call, however its body goes on.
+pub fn feed_machine<P: ByteParser>(parser: &mut P, bytes: &[u8]) -> Option<usize>
+    ghost due: { P → List ℕ → SyntaxError }
+    ensures { Fed (machine P.next due parser.old) (machine P.next due parser.new) bytes.now result }
+{
+    feed_bytes(parser, bytes)
 }

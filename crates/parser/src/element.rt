@@ -4,7 +4,7 @@ ghost use Rattle.parser.specs.First.{StopsAtFirst, ends_tag};
 ghost use Rattle.parser.specs.declared.element.ElementParser.TheVariants.{Outside};
 ghost use Rattle.parser.specs.Machines;
 
-use crate::bytes::{ByteParser, feed_bytes};
+use crate::bytes::{ByteParser, feed_machine};
 use crate::errors::SyntaxError;
 use crate::parser::Parser;
 
@@ -52,7 +52,7 @@ impl Parser for ElementParser {
     ghost prefix = { Machines.prefix element_step element_due };
 
     fn feed(&mut self, bytes: &[u8]) -> Option<usize> {
-        feed_bytes(self, bytes)
+        feed_machine(self, bytes)
     }
 
     fn eof_error(self, _content: &[u8]) -> SyntaxError {

@@ -11,7 +11,7 @@ pub mod parser;
 pub mod pi;
 pub mod runs;
 
-pub use bytes::{ByteParser, feed_bytes};
+pub use bytes::{ByteParser, feed_bytes, feed_machine};
 pub use cdata::CDataParser;
 pub use comment::CommentParser;
 pub use doubled::DoubledParser;

@@ -3,7 +3,7 @@ ghost use Rattle.parser.specs.First.{StopsAtFirst, ends_after};
 ghost use Rattle.parser.specs.Pi.{pi, pi_step, after_question, pi_due};
 ghost use Rattle.parser.specs.Machines;
 
-use crate::bytes::{ByteParser, feed_bytes};
+use crate::bytes::{ByteParser, feed_machine};
 use crate::errors::SyntaxError;
 use crate::parser::Parser;
 
@@ -42,7 +42,7 @@ impl Parser for PiParser {
     ghost prefix = { Machines.prefix pi_step pi_due };
 
     fn feed(&mut self, bytes: &[u8]) -> Option<usize> {
-        feed_bytes(self, bytes)
+        feed_machine(self, bytes)
     }
 
     // An instruction whose target is `xml` is the XML declaration.
