@@ -1,6 +1,7 @@
-ghost use Rattle.std.specs.Prelude.{◌≡◌, ◌^◌, ◌<◌, ◌≤◌, [], length, take as front, None};
+ghost use Rattle.std.specs.Prelude.{◌≡◌, ◌^◌, ◌<◌, ◌≤◌, [], length, take as front, None, Ok};
 ghost use Rattle.model.specs.Call.{state, left_with, outcome, admitted, reads, taking_reading, whole, text_reading, ref_reading, with_reading};
 ghost use Rattle.model.specs.Bang.{bangs};
+ghost use Rattle.model.specs.declared.ending.Pending.TheVariants as pending;
 ghost use Rattle.model.specs.Peek.{await, peeks, abandons};
 ghost use Rattle.model.specs.History.{Continues, event, read_text, read_ref, peek_one, read_with, read_bang_element, abandon};
 ghost use Rattle.quick.specs.Answers.{AsQuickXmlText, AsQuickXmlRef, AsQuickXmlPeek, AsQuickXmlWith, AsQuickXmlBang};
@@ -69,7 +70,7 @@ impl<S: Source> Reader<S> {
         ensures piece { PieceCall text_reading self.old buf.old patience (outcome result self.new buf.new) }
         ensures quick { AsQuickXmlText self.old buf.old patience (outcome result self.new buf.new) }
     {
-        self.read_taking(Text, 0, buf, patience)
+        self.read_text_inner(buf, patience)
     }
 
     // Takes `&`, then all through the next `;`, or before the next `&`, `<` or the end.
@@ -79,7 +80,7 @@ impl<S: Source> Reader<S> {
         ensures piece { PieceCall ref_reading self.old buf.old patience (outcome result self.new buf.new) }
         ensures quick { AsQuickXmlRef self.old buf.old patience (outcome result self.new buf.new) }
     {
-        self.read_taking(Reference::new(), 1, buf, patience)
+        self.read_ref_inner(buf, patience)
     }
 
     // Takes `<`, and answers the byte behind it, which stays, with a token for the opening that is then pending.
@@ -179,6 +180,18 @@ impl<S: Source> Reader<S> {
         taken_answer(&buf[..written], ending)
     }
 
+    fn read_text_inner(&mut self, buf: &mut [u8], patience: u32) -> Result<ReadText, Refusal>
+        ensures { outcome result self.new buf.new ≡ reads text_reading self.old buf.old patience }
+    {
+        self.read_taking(Text, 0, buf, patience)
+    }
+
+    fn read_ref_inner(&mut self, buf: &mut [u8], patience: u32) -> Result<ReadRef, Refusal>
+        ensures { outcome result self.new buf.new ≡ reads ref_reading self.old buf.old patience }
+    {
+        self.read_taking(Reference::new(), 1, buf, patience)
+    }
+
     fn read_with_inner<P: Parser + Drop>(
         &mut self,
         token: OpeningToken,
@@ -239,6 +252,19 @@ impl<S: Source> Reader<S> {
         if let Err(error) = self.admit(buf.len(), Pending::Bang, 2) {
             return Err(Refused::Kept(error, token));
         }
+        self.take_bang_element(token, buf, patience)
+    }
+
+    // What read_bang_element does once it is admitted.
+    fn take_bang_element(
+        &mut self,
+        token: OpeningToken,
+        buf: &mut [u8],
+        patience: u32,
+    ) -> Result<(BangKind, usize), Refused<OpeningToken>>
+        requires { Ok tt ≡ admitted self.old.position (length buf.old) pending.Bang self.old.opening 2 }
+        ensures { outcome result self.new buf.new ≡ bangs token self.old buf.old patience }
+    {
         token.spend();
         buf[0] = b'<';
         let taken = self.take_peeked(patience);

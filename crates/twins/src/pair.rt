@@ -27,7 +27,33 @@ pub fn both<S: Source, T: Source, P: Parser + Drop, Q: Parser + Drop>(
     ensures equal { SameCall P.Parser.scan Q.Parser.scan call same → one.old ≡ other.old → buf.old ≡ other_buf.old → patience ≡ other_patience → outcome result.0 one.new buf.new ≡ outcome result.1 other.new other_buf.new }
     ensures waits { SameCall P.Parser.scan Q.Parser.scan call same → Alike one.old other.old → buf.old ≡ other_buf.old → Rested result.0 → Rested result.1 → AlikeOutcomes (outcome result.0 one.new buf.new) (outcome result.1 other.new other_buf.new) }
 {
+    perform_each(
+        one,
+        other,
+        call,
+        same,
+        buf,
+        other_buf,
+        patience,
+        other_patience,
+    )
+}
+
+// The calls need not be the same.
+fn perform_each<S: Source, T: Source, P: Parser + Drop, Q: Parser + Drop>(
+    one: &mut Reader<S>,
+    other: &mut Reader<T>,
+    call: Call<P>,
+    other_call: Call<Q>,
+    buf: &mut [u8],
+    other_buf: &mut [u8],
+    patience: u32,
+    other_patience: u32,
+) -> (Answer<OpeningToken>, Answer<OpeningToken>)
+    ensures one { outcome result.0 one.new buf.new ≡ performs P.Parser.scan one.old call buf.old patience }
+    ensures other { outcome result.1 other.new other_buf.new ≡ performs Q.Parser.scan other.old other_call other_buf.old other_patience }
+{
     let answer = perform(one, call, buf, patience);
-    let other_answer = perform(other, same, other_buf, other_patience);
+    let other_answer = perform(other, other_call, other_buf, other_patience);
     (answer, other_answer)
 }

@@ -11,16 +11,10 @@ use Rattle.reader.specs.State.{the_token}
 use Rattle.reader.proofs.reader.Reader.read_ref.Goals as goal
 
 pub returns-clause-report : goal.returns-clause-report
-returns-clause-report g c =
-    let does = rw c.new.ensures at c.read_taking.ensures in
-    continues the_token _ (read_ref c.args.buf.now c.args.patience) (Ref _) _ _ (ap (answering Ref) does)
+returns-clause-report g c = continues the_token _ (read_ref c.args.buf.now c.args.patience) (Ref _) _ _ (ap (answering Ref) c.read_ref_inner.ensures)
 
 pub returns-clause-piece : goal.returns-clause-piece
-returns-clause-piece g c =
-    let does = rw c.new.ensures at c.read_taking.ensures in
-    subst (PieceCall ref_reading _ _ _) (sym does) (refs_one_piece _ _ _)
+returns-clause-piece g c = subst (PieceCall ref_reading _ _ _) (sym c.read_ref_inner.ensures) (refs_one_piece _ _ _)
 
 pub returns-clause-quick : goal.returns-clause-quick
-returns-clause-quick g c =
-    let does = rw c.new.ensures at c.read_taking.ensures in
-    subst (AsQuickXmlRef c.args.self.now c.args.buf.now c.args.patience) (sym does) (ref_as c.args.self.now c.args.buf.now c.args.patience)
+returns-clause-quick g c = subst (AsQuickXmlRef c.args.self.now c.args.buf.now c.args.patience) (sym c.read_ref_inner.ensures) (ref_as c.args.self.now c.args.buf.now c.args.patience)

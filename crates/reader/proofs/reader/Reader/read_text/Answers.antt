@@ -11,10 +11,10 @@ use Rattle.reader.specs.State.{the_token}
 use Rattle.reader.proofs.reader.Reader.read_text.Goals as goal
 
 pub returns-clause-report : goal.returns-clause-report
-returns-clause-report g c = continues the_token _ (read_text c.args.buf.now c.args.patience) (Text _) _ _ (ap (answering Text) c.read_taking.ensures)
+returns-clause-report g c = continues the_token _ (read_text c.args.buf.now c.args.patience) (Text _) _ _ (ap (answering Text) c.read_text_inner.ensures)
 
 pub returns-clause-piece : goal.returns-clause-piece
-returns-clause-piece g c = subst (PieceCall text_reading _ _ _) (sym c.read_taking.ensures) (texts_one_piece _ _ _)
+returns-clause-piece g c = subst (PieceCall text_reading _ _ _) (sym c.read_text_inner.ensures) (texts_one_piece _ _ _)
 
 pub returns-clause-quick : goal.returns-clause-quick
-returns-clause-quick g c = subst (AsQuickXmlText c.args.self.now c.args.buf.now c.args.patience) (sym c.read_taking.ensures) (text_as c.args.self.now c.args.buf.now c.args.patience)
+returns-clause-quick g c = subst (AsQuickXmlText c.args.self.now c.args.buf.now c.args.patience) (sym c.read_text_inner.ensures) (text_as c.args.self.now c.args.buf.now c.args.patience)

@@ -7,7 +7,7 @@ use Rattle.model.specs.Call.{state}
 use Rattle.model.specs.Peek.{await}
 use Rattle.reader.specs.Peeked.{peeked_taken}
 use Rattle.reader.proofs.Pieces.{map_err-exit, bang_answered, prefixed, opening_set, bang-set, bang_none, bang-refused, bang_read}
-use Rattle.reader.proofs.reader.Reader.read_bang_element_inner.Goals as goal
+use Rattle.reader.proofs.reader.Reader.take_bang_element.Goals as goal
 
 pub returns-in_err-left : goal.returns-in_err-left
 returns-in_err-left g c =
@@ -15,7 +15,7 @@ returns-in_err-left g c =
     let one : 1 ≤ length buf = search rules in
     let exit = err_from_is_err_and c.from_residual.result c.from_residual.ensures.1 in
     let refused = map_err-exit _ c.take_peeked-taken.result c.map_err.result c.map_err.ensures.cases c.in_err-left.field-0.0 c.in_err-left.was in
-    rw exit.1 (bang_none c.args.token c.args.self.now buf c.args.patience c.in_default.ensures
+    rw exit.1 (bang_none c.args.token c.args.self.now buf c.args.patience c.requires
     refused.0 (refused.1 ∙ c.take_peeked-taken.ensures.value) exit.0 (grind (arith, exit.2, refused.2))
     _ c.take_peeked-taken.ensures.after _ (opening_set buf one))
 
@@ -29,7 +29,7 @@ returns-in_err-bang g c =
     let taken : Ok c.in_ok-left.left ≡ peeked_taken (await c.args.patience s.stream.items s.stream.tail) = search rules in
     let exit = err_from_is_err_and c.from_residual-in_err-bang.result c.from_residual-in_err-bang.ensures.1 in
     let refused = map_err-exit _ c.bang_type-named.result c.map_err-2.result c.map_err-2.ensures.cases c.in_err-bang.field-0.0 c.in_err-bang.was in
-    rw exit.1 (bang-refused c.args.token s buf c.args.patience c.in_default.ensures
+    rw exit.1 (bang-refused c.args.token s buf c.args.patience c.requires
     c.in_ok-left.left taken (g.S.Source.stream c.self.inside.source) source
     (ap (λ x. x.stream) after) c.bang_type-named.ensures.left c.bang_type-named.ensures.tail
     refused.0 (refused.1 ∙ c.bang_type-named.ensures.value) exit.0 (grind (arith, exit.2, refused.2))
@@ -46,7 +46,7 @@ returns g c =
     let b = c.in_ok-bang.bang in
     let n = c.in_ok-bang.left in
     let taken : Ok c.in_ok-left.left ≡ peeked_taken (await c.args.patience s.stream.items s.stream.tail) = search rules in
-    bang_read c.args.token s buf c.args.patience c.in_default.ensures
+    bang_read c.args.token s buf c.args.patience c.requires
     c.in_ok-left.left taken (g.S.Source.stream c.self.inside.source) source
     (ap (λ x. x.stream) after) c.bang_type-named.ensures.left c.bang_type-named.ensures.tail
     b n (search rules)
