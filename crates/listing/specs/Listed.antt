@@ -3,6 +3,7 @@ use Rattle.std.specs.Prelude.{ℕ, zero, suc, Bool, true, false, cond, List, [],
 use Rattle.source.specs.Stream.{plain, limited}
 use Rattle.source.specs.declared.fault.Fault.TheVariants.{Quota}
 use Rattle.model.specs.Call.{State, state}
+use Rattle.errors.specs.Numbers.{number}
 use Rattle.piece.specs.Next.{Next, nexts}
 use Rattle.listing.specs.declared.line.Line.{Line}
 use Rattle.listing.specs.declared.line.Line.TheVariants.{Piece, End, Fault}
@@ -11,7 +12,7 @@ use Rattle.listing.specs.declared.line.Line.TheVariants.{Piece, End, Fault}
 abbrev pub line : ℕ → Next → Line
 line before (Ok (Some p)) = Piece p.kind before p.written
 line before (Ok None) = End before
-line before (Err r) = Fault before r.error
+line before (Err r) = Fault before (number r.error)
 
 -- the listing ends with the end or a refusal
 abbrev pub closing : Next → Bool

@@ -1,7 +1,6 @@
 ghost use Rattle.std.specs.Prelude.{Some};
 ghost use Rattle.listing.specs.Text.{line_text};
 
-use errors::Error;
 use piece::Kind;
 use std::fmt;
 
@@ -12,8 +11,9 @@ pub enum Line {
     Piece(Kind, u64, usize),
     // the end, at a position
     End(u64),
-    // a refusal: the position before it, and why
-    Fault(u64, Error),
+    // a refusal: the position before it, and its number, which is what a listing shows of it; a line with the whole error would be a
+    // third larger
+    Fault(u64, u8),
 }
 
 // Three fields, with tabs between them.
@@ -24,7 +24,7 @@ impl fmt::Display for Line {
         match *self {
             Line::Piece(kind, position, written) => write!(f, "{kind}\t{position}\t{written}"),
             Line::End(position) => write!(f, "end\t{position}\t0"),
-            Line::Fault(position, error) => write!(f, "fault\t{position}\t{}", error.number()),
+            Line::Fault(position, number) => write!(f, "fault\t{position}\t{number}"),
         }
     }
 }

@@ -15,7 +15,7 @@ fn line_of(before: u64, answer: Result<Option<Piece>, Refusal>) -> Line
     match answer {
         Ok(Some(piece)) => Line::Piece(piece.kind, before, piece.written),
         Ok(None) => Line::End(before),
-        Err(refusal) => Line::Fault(before, refusal.error),
+        Err(refusal) => Line::Fault(before, refusal.error.number()),
     }
 }
 
