@@ -1,10 +1,11 @@
 -- Lists of words, a word at a time.
-use Rattle.std.proofs.Common.{◌≡◌, ℕ, ◌+◌, ◌-◌, ◌<◌, ◌≤◌, List, [], ◌∷◌, ◌++◌, map, length, get_or, take, drop, IsErrAnd, Some, None, Err, Option, Result, sym, refl, ap, ◌∙◌, append_assoc, append-nil, arith, Bor}
-use Rattle.std.proofs.lemmas.List.{drop_more, drop_all, map_push}
+use Rattle.std.proofs.Common.{◌≡◌, ℕ, ◌-◌, ◌≤◌, List, [], ◌∷◌, ◌++◌, map, length, get_or, take, drop, IsErrAnd, Some, None, Err, Option, Result, sym, refl, ap, ◌∙◌, append_assoc, append-nil, arith, Bor}
+use Rattle.std.proofs.lemmas.List.{map_push}
 use Rattle.std.proofs.lemmas.Result.{err_from_is_err_and}
-use Rattle.cases.proofs.Parts.{all_behind}
+use Rattle.std.specs.Option.{option_map}
+use Rattle.cases.proofs.Parts.{all_behind, parts, split_cut}
 use Rattle.cases.specs.Read.{Reads}
-use Rattle.cases.specs.Words.{bound, split, every, hex_byte_of, pairs_of}
+use Rattle.cases.specs.Words.{before, behind, bound, split, every, hex_byte_of, pairs_of}
 use Rattle.cases.specs.declared.bad.Bad.{Bad}
 use Rattle.cases.specs.declared.bad.Bad.TheVariants.{NoCase, NoMemory}
 
@@ -21,30 +22,33 @@ after_one : {A : Type 0} (done : List A) (a : A) (o : Option (List A)) → after
 after_one done a None = refl
 after_one done a (Some more) = ap (λ x. Some x) (sym (append_assoc done (a ∷ []) more))
 
-module _ {W A : Type 0} (view : W → A) (f : List ℕ → Option A) (text : List ℕ) where
+-- words with s between them
+module _ {W A : Type 0} (s : ℕ) (view : W → A) (f : List ℕ → Option A) (text : List ℕ) where
   -- the words before `left` are read
-  abbrev pub ListTurn : List (Bor (List ℕ)) → List W → Type 0
-  ListTurn left done = every f (split 44 text) ≡ after (map view done) (every f (map (λ x. x.now) left))
+  abbrev pub ListTurn : Option (Bor (List ℕ)) → List W → Type 0
+  ListTurn left done = every f (split s text) ≡ after (map view done) (every f (parts s (option_map (λ x. x.now) left)))
 
-  pub list_start : (parts : List (Bor (List ℕ))) → map (λ x. x.now) parts ≡ split 44 text → ListTurn parts []
-  list_start parts e = ap (every f) (sym e) ∙ sym (after_nothing (every f (map (λ x. x.now) parts)))
+  pub list_start : (t : Bor (List ℕ)) → t.now ≡ text → ListTurn (Some t) []
+  list_start t e = ap (λ t. every f (split s t)) (sym e) ∙ sym (after_nothing (every f (split s t.now)))
 
-  module _ (parts : List (Bor (List ℕ))) (done : List W) (i : ℕ) (t : ListTurn (drop i parts) done) where
-    module _ (d : Bor (List ℕ)) (lt : i < length parts) where
-      next_word : every f (split 44 text) ≡ after (map view done) (bound (f (get_or parts i d).now) (λ a. bound (every f (map (λ x. x.now) (drop (i + 1) parts))) (λ more. Some (a ∷ more))))
-      next_word = t ∙ ap (λ ws. after (map view done) (every f (map (λ x. x.now) ws))) (drop_more parts i d lt)
+  module _ (r : Bor (List ℕ)) (done : List W) (t : ListTurn (Some r) done) (word : List ℕ) (is_IsWord : word ≡ before s r.now) where
+    here : every f (split s text) ≡ after (map view done) (bound (f word) (λ a. bound (every f (parts s (behind s r.now))) (λ more. Some (a ∷ more))))
+    here =
+        t ∙ ap (λ ws. after (map view done) (every f ws)) (split_cut s r.now)
+        ∙ ap (λ w. after (map view done) (bound (f w) (λ a. bound (every f (parts s (behind s r.now))) (λ more. Some (a ∷ more))))) (sym is_IsWord)
 
-      pub list_next : (w : W) → f (get_or parts i d).now ≡ Some (view w) → ListTurn (drop (i + 1) parts) (done ++ (w ∷ []))
-      list_next w e =
-          next_word ∙ ap (λ o. after (map view done) (bound o (λ a. bound (every f (map (λ x. x.now) (drop (i + 1) parts))) (λ more. Some (a ∷ more))))) e
-          ∙ after_one (map view done) (view w) (every f (map (λ x. x.now) (drop (i + 1) parts)))
-          ∙ ap (λ ws. after ws (every f (map (λ x. x.now) (drop (i + 1) parts)))) (sym (map_push view done w))
+    pub list_next : (rest : Option (Bor (List ℕ))) → option_map (λ x. x.now) rest ≡ behind s r.now → (w : W) → f word ≡ Some (view w) → ListTurn rest (done ++ (w ∷ []))
+    list_next rest q w e =
+        here ∙ ap (λ o. after (map view done) (bound o (λ a. bound (every f (parts s (behind s r.now))) (λ more. Some (a ∷ more))))) e
+        ∙ after_one (map view done) (view w) (every f (parts s (behind s r.now)))
+        ∙ ap (λ ws. after ws (every f (parts s (behind s r.now)))) (sym (map_push view done w))
+        ∙ ap (λ x. after (map view (done ++ (w ∷ []))) (every f (parts s x))) (sym q)
 
-      pub list_refused : f (get_or parts i d).now ≡ None → every f (split 44 text) ≡ None
-      list_refused e = next_word ∙ ap (λ o. after (map view done) (bound o (λ a. bound (every f (map (λ x. x.now) (drop (i + 1) parts))) (λ more. Some (a ∷ more))))) e
+    pub list_refused : f word ≡ None → every f (split s text) ≡ None
+    list_refused e = here ∙ ap (λ o. after (map view done) (bound o (λ a. bound (every f (parts s (behind s r.now))) (λ more. Some (a ∷ more))))) e
 
-    pub list_whole : length parts ≤ i → every f (split 44 text) ≡ Some (map view done)
-    list_whole e = t ∙ ap (λ ws. after (map view done) (every f (map (λ x. x.now) ws))) (drop_all i parts e) ∙ ap (λ x. Some x) (append-nil (map view done))
+  pub list_whole : (done : List W) → ListTurn None done → every f (split s text) ≡ Some (map view done)
+  list_whole done t = t ∙ ap (λ x. Some x) (append-nil (map view done))
 
 two_more : (ds : List ℕ) → 2 ≤ length ds → pairs_of ds ≡ bound (hex_byte_of (get_or ds 0 0) (get_or ds 1 0)) (λ b. bound (pairs_of (drop 2 ds)) (λ bs. Some (b ∷ bs)))
 two_more [] h = absurd (omega arith)

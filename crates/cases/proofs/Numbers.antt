@@ -1,61 +1,94 @@
--- Decimal numbers, by what `parse` says of digits alone.
-use Rattle.std.proofs.Common.{◌≡◌, ℕ, ◌^◌, ◌<◌, Bool, true, false, cond, leb, List, [], ◌∷◌, length, Some, None, Ok, Err, Result, MatchResult, OkIff, sym, refl, ap, ◌∙◌, arith, Bor}
-use Rattle.std.specs.Bool.{then_some}
-use Rattle.std.specs.Char.{is_ascii_digit}
+-- Decimal numbers, a digit at a time.
+use Rattle.std.proofs.Common.{◌≡◌, ℕ, ◌+◌, ◌*◌, ◌<◌, ◌≤◌, nat_lt, Bool, true, false, ◌&&◌, cond, leb, List, [], ◌∷◌, length, get_or, take, Some, None, Option, sym, refl, ap, ◌∙◌, arith, take_all}
+use Rattle.std.specs.Char.{digit_value, is_ascii_digit}
 use Rattle.std.specs.List.{list_all}
-use Rattle.std.specs.Result.{result_ok}
-use Rattle.std.specs.Str.{all_ascii_digits, IsUtf8}
-use Rattle.std.specs.Str.Parse.{ParsesUnsigned, digits_value}
-use Rattle.std.proofs.lemmas.Bool.{leb-true}
-use Rattle.std.proofs.lemmas.Fmt.{IsAscii-from_digits}
-use Rattle.std.proofs.lemmas.Str.{IsUtf8-from_ascii}
-use Rattle.std.proofs.lemmas.Str.Parse.{IsNumeralModel, numerals_by_value, tells_all_ascii_digits, parse_digits}
-use Rattle.cases.specs.Words.{bound, at_most, decimal_of}
+use Rattle.std.specs.Str.{all_ascii_digits}
+use Rattle.std.specs.Str.Parse.{digits_value}
+use Rattle.std.proofs.lemmas.Bool.{leb-true, leb-false, le-leb, ltb-true, ltb-false}
+use Rattle.std.proofs.lemmas.Int.Digits.{digits_value_more}
+use Rattle.std.proofs.lemmas.List.Folds.{list_all_at, list_all_more}
+use Rattle.std.proofs.lemmas.Str.{digit_value_digit}
+use Rattle.std.proofs.lemmas.Str.Parse.{digit_from_value, digits_value-take-le}
+use Rattle.cases.specs.Words.{at_most, appended_of, decimal_of}
 
-own : IsNumeralModel (λ ds. all_ascii_digits ds ≡ true) (digits_value 10)
-own = numerals_by_value _ tells_all_ascii_digits
-
-pub list_all-digits : (ds : List ℕ) → list_all is_ascii_digit ds ≡ all_ascii_digits ds
+list_all-digits : (ds : List ℕ) → list_all is_ascii_digit ds ≡ all_ascii_digits ds
 list_all-digits [] = refl
 list_all-digits (d ∷ ds) = rw (list_all-digits ds) refl
 
-pub no_number : (most : ℕ) (ds : List ℕ) → all_ascii_digits ds ≡ false → None ≡ decimal_of most ds
-no_number most [] h = refl
-no_number most (d ∷ ds) h = rw h refl
+decimal_is : (most : ℕ) (ds : List ℕ) → 0 < length ds → decimal_of most ds ≡ cond (list_all is_ascii_digit ds) (at_most most (digits_value 10 ds)) None
+decimal_is most [] h = absurd (omega arith)
+decimal_is most (d ∷ ds) h = ap (λ b. cond b (at_most most (digits_value 10 (d ∷ ds))) None) (sym (list_all-digits (d ∷ ds)))
 
--- digits are a text
-module _ {E : Type 0} (Q : E → Type 0) (ds : List ℕ) (r : Result (Bor (List ℕ)) E) (p : MatchResult r (λ s. (s.now ≡ ds) × IsUtf8 ds) (λ e. ¬ (IsUtf8 ds) × Q e)) where
-  pub not_refused : {A : Type 0} → all_ascii_digits ds ≡ true → None ≡ result_ok r → A
-  not_refused h = go r p
+-- the first i digits make n
+pub record Turn (most : ℕ) (ds : List ℕ) (i n : ℕ) : Type 0 where
+  pub digits : list_all is_ascii_digit (take i ds) ≡ true
+  pub value : n ≡ digits_value 10 (take i ds)
+  pub small : n ≤ most
+
+pub start : (most : ℕ) (ds : List ℕ) → Turn most ds 0 0
+start most ds = record { digits = refl; value = refl; small = omega arith }
+
+too_large : (most n : ℕ) → most < n → at_most most n ≡ None
+too_large most n h = go (leb n most) refl
+  where
+    go : (v : Bool) → leb n most ≡ v → cond v (Some n) None ≡ None
+    go true e = let l = leb-true n most e in absurd (omega arith)
+    go false e = refl
+
+digit_is : (b : ℕ) (v : Bool) → nat_lt (digit_value b) 10 ≡ v → is_ascii_digit b ≡ v
+digit_is b true h =
+    let r = digit_from_value b (ltb-true (digit_value b) 10 h) in
+    rw (le-leb 48 b (omega arith), le-leb b 57 (omega arith)) refl
+digit_is b false h = go (leb 48 b) (leb b 57) refl refl
+  where
+    go : (u v : Bool) → leb 48 b ≡ u → leb b 57 ≡ v → (u && v) ≡ false
+    go true true f g =
+        let low = leb-true 48 b f in
+        let high = leb-true b 57 g in
+        let value = digit_value_digit b (low, high) in
+        let no = ltb-false (digit_value b) 10 h in
+        absurd (omega arith)
+    go true false f g = refl
+    go false v f g = refl
+
+module _ (most : ℕ) (ds : List ℕ) (i n : ℕ) (t : Turn most ds i n) (l : i < length ds) where
+  more : (v : Bool) → nat_lt (digit_value (get_or ds i 0)) 10 ≡ v → list_all is_ascii_digit (take (i + 1) ds) ≡ v
+  more v h = list_all_more is_ascii_digit ds i 0 l ∙ rw t.digits (digit_is (get_or ds i 0) v h)
+
+  longer : digits_value 10 (take (i + 1) ds) ≡ n * 10 + digit_value (get_or ds i 0)
+  longer = digits_value_more 10 ds i l ∙ ap (λ x. x * 10 + digit_value (get_or ds i 0)) (sym t.value)
+
+  pub next : (m : ℕ) → Some m ≡ appended_of most n (get_or ds i 0) → Turn most ds (i + 1) m
+  next m = go (nat_lt (digit_value (get_or ds i 0)) 10) refl (leb (n * 10 + digit_value (get_or ds i 0)) most) refl
     where
-      go : {A : Type 0} (r : Result (Bor (List ℕ)) E) → MatchResult r (λ s. (s.now ≡ ds) × IsUtf8 ds) (λ e. ¬ (IsUtf8 ds) × Q e) → None ≡ result_ok r → A
-      go (Ok s) p e = cc
-      go (Err d) p e = absurd (p.0 (IsUtf8-from_ascii ds (IsAscii-from_digits ds (own.to ds h))))
+      go : (v : Bool) → nat_lt (digit_value (get_or ds i 0)) 10 ≡ v → (w : Bool) → leb (n * 10 + digit_value (get_or ds i 0)) most ≡ w → Some m ≡ cond v (cond w (Some (n * 10 + digit_value (get_or ds i 0))) None) None → Turn most ds (i + 1) m
+      go true h true k e =
+          let same : m ≡ n * 10 + digit_value (get_or ds i 0) = cc in
+          let small = leb-true _ _ k in
+          record { digits = more true h; value = same ∙ sym longer; small = omega arith }
+      go true h false k e = cc
+      go false h w k e = cc
 
-  pub same_text : (s : Bor (List ℕ)) → Some s ≡ result_ok r → s.now ≡ ds
-  same_text s = go r p
+  pub refused : None ≡ appended_of most n (get_or ds i 0) → None ≡ decimal_of most ds
+  refused = go (nat_lt (digit_value (get_or ds i 0)) 10) refl (leb (n * 10 + digit_value (get_or ds i 0)) most) refl
     where
-      go : (r : Result (Bor (List ℕ)) E) → MatchResult r (λ s. (s.now ≡ ds) × IsUtf8 ds) (λ e. ¬ (IsUtf8 ds) × Q e) → Some s ≡ result_ok r → s.now ≡ ds
-      go (Ok t) p e = let same : s ≡ t = cc in ap (λ x. x.now) same ∙ p.0
-      go (Err d) p e = cc
+      go : (v : Bool) → nat_lt (digit_value (get_or ds i 0)) 10 ≡ v → (w : Bool) → leb (n * 10 + digit_value (get_or ds i 0)) most ≡ w → None ≡ cond v (cond w (Some (n * 10 + digit_value (get_or ds i 0))) None) None → None ≡ decimal_of most ds
+      go true h true k e = cc
+      go true h false k e =
+          let large = leb-false _ _ k in
+          let rest = digits_value-take-le 10 ds (i + 1) (omega arith) in
+          let none = too_large most (digits_value 10 ds) (omega (arith, longer)) in
+          sym (decimal_is most ds (omega arith) ∙ ap (λ o. cond (list_all is_ascii_digit ds) o None) none ∙ same (list_all is_ascii_digit ds))
+        where
+          same : (b : Bool) → cond {A = Option ℕ} b None None ≡ None
+          same true = refl
+          same false = refl
+      go false h w k e =
+          sym (decimal_is most ds (omega arith) ∙ ap (λ b. cond b (at_most most (digits_value 10 ds)) None) (list_all_at is_ascii_digit ds i 0 l (digit_is (get_or ds i 0) false h)))
 
-module _ {E : Type 0} (most : ℕ) (small : most < 2 ^ 64) where
-  -- a number that is too large for 64 bits is above `most`
-  unparsed : (ds : List ℕ) (e : E) → all_ascii_digits ds ≡ true → OkIff {T = ℕ} (Err e) ((0 < length ds) × (digits_value 10 ds < 2 ^ 64)) (digits_value 10 ds) → decimal_of most ds ≡ None
-  unparsed [] e h p = refl
-  unparsed (d ∷ ds) e h p = rw h (go (leb (digits_value 10 (d ∷ ds)) most) refl)
-    where
-      go : (b : Bool) → leb (digits_value 10 (d ∷ ds)) most ≡ b → cond b (Some (digits_value 10 (d ∷ ds))) None ≡ None
-      go true l = let k = leb-true _ _ l in absurd (p (omega arith, omega arith))
-      go false l = refl
-
-  pub parsed : (ds : List ℕ) (r : Result ℕ E) → all_ascii_digits ds ≡ true → ParsesUnsigned 64 10 ds r → decimal_of most ds ≡ bound (result_ok r) (at_most most)
-  parsed ds r h p = go ds r h (parse_digits own 64 ds r p h)
-    where
-      go : (ds : List ℕ) (r : Result ℕ E) → all_ascii_digits ds ≡ true → OkIff r ((0 < length ds) × (digits_value 10 ds < 2 ^ 64)) (digits_value 10 ds) → decimal_of most ds ≡ bound (result_ok r) (at_most most)
-      go ds (Err e) h p = unparsed ds e h p
-      go [] (Ok n) h p = let l = p.0.0 in absurd (omega arith)
-      go (d ∷ ds) (Ok n) h p = rw h (ap (at_most most) (sym p.1))
-
-pub at_most-then_some : (most n : ℕ) → then_some (leb n most) n ≡ at_most most n
-at_most-then_some most n = elim (leb n most) as (λ b. then_some b n ≡ cond b (Some n) None) [ true ↦ refl | false ↦ refl ]
+pub whole : (most : ℕ) (ds : List ℕ) (i n : ℕ) → 0 < length ds → Turn most ds i n → length ds ≤ i → Some n ≡ decimal_of most ds
+whole most ds i n p t h =
+    let all = take_all i ds h in
+    let value : n ≡ digits_value 10 ds = t.value ∙ ap (digits_value 10) all in
+    sym (decimal_is most ds p ∙ ap (λ b. cond b (at_most most (digits_value 10 ds)) None) (ap (list_all is_ascii_digit) (sym all) ∙ t.digits)
+    ∙ ap (at_most most) (sym value) ∙ ap (λ b. cond b (Some n) None) (le-leb n most t.small))

@@ -31,9 +31,9 @@ meant_case c = record {
 -- six fields, and those for the limits
 abbrev pub case_in : List (List ℕ) → Option Meant
 case_in (id ∷ start ∷ cuts ∷ fault ∷ bytes ∷ script ∷ limits) =
-    bound (decimal_of 18446744073709551615 start) (λ s. bound (none_or (λ t. every (decimal_of 255) (split 44 t)) cuts) (λ cs.
-    bound (decimal_of 255 fault) (λ f. bound (none_or pairs_of bytes) (λ bs. bound (every step_of (split 44 script)) (λ steps.
-    bound (limits_of limits) (λ l. Some (record {
+    bound (decimal_of 18446744073709551615 start) (λ s. bound (decimal_of 255 fault) (λ f. bound (limits_of limits) (λ l.
+    bound (none_or (λ t. every (decimal_of 255) (split 44 t)) cuts) (λ cs. bound (none_or pairs_of bytes) (λ bs. bound (every step_of (split 44 script)) (λ steps.
+    Some (record {
       id = id;
       start = s;
       cuts = cs;

@@ -19,6 +19,18 @@ names =
     ∷ (codes "peek", (Peek, false)) ∷ (codes "next", (Next, false)) ∷ (codes "elem", (Spend Elem, false)) ∷ (codes "pi", (Spend Pi, false))
     ∷ (codes "comment", (Spend Comment, false)) ∷ (codes "bang", (Spend Bang, false)) ∷ (codes "abandon", (Spend Abandon, false)) ∷ []
 
+-- the name of a call
+abbrev pub call_text : Call → List ℕ
+call_text Text = codes "text"
+call_text Ref = codes "ref"
+call_text Peek = codes "peek"
+call_text Next = codes "next"
+call_text (Spend Elem) = codes "elem"
+call_text (Spend Pi) = codes "pi"
+call_text (Spend Comment) = codes "comment"
+call_text (Spend Bang) = codes "bang"
+call_text (Spend Abandon) = codes "abandon"
+
 -- a buffer's length: 65536 where there is no digit
 abbrev pub length_of : List ℕ → Option ℕ
 length_of [] = Some 65536

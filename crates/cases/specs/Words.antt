@@ -34,6 +34,10 @@ every f (w ∷ ws) = bound (f w) (λ a. bound (every f ws) (λ more. Some (a ∷
 abbrev pub none_or : {A : Type 0} → (List ℕ → Option (List A)) → List ℕ → Option (List A)
 none_or f text = cond (bytes_eq text (codes "-")) (Some []) (f text)
 
+-- the number n with the digit b behind its own, where it is no more than `most`
+abbrev pub appended_of : ℕ → ℕ → ℕ → Option ℕ
+appended_of most n b = cond (nat_lt (digit_value b) 10) (at_most most (n * 10 + digit_value b)) None
+
 -- the number of decimal digits, of which there is at least one, where it is no more than `most`
 abbrev pub decimal_of : ℕ → List ℕ → Option ℕ
 decimal_of most [] = None

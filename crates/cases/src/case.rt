@@ -1,14 +1,20 @@
 // A case: what the reader stands on, and the calls that are made.
-ghost use Rattle.std.specs.Prelude.{◌≡◌, map};
+ghost use Rattle.std.specs.Prelude.{◌≡◌, map, length};
 ghost use Rattle.cases.specs.Cases.{meant_case, case_in, case_of};
 ghost use Rattle.std.specs.Option.{option_map};
 ghost use Rattle.cases.specs.Fields.{field_of, fields_of, limits_of};
 ghost use Rattle.cases.specs.Read.{Reads};
+ghost use Rattle.cases.specs.Words.{split};
 
 use super::bad::Bad;
 use super::step::Step;
-use super::words::{cut_at, decimal, entries, hex, list, parts};
+use super::words::{cut_at, decimal, entries, hex, list};
 use std::alloc::Global;
+
+// How many fields a case has.
+const LEAST_FIELDS: usize = 6;
+
+const MOST_FIELDS: usize = 8;
 
 #[derive(Drop)]
 pub struct Case<'a> {
@@ -37,11 +43,22 @@ pub fn field(line: Option<&[u8]>) -> Option<(&[u8], Option<&[u8]>)>
 pub fn fields<'a>(heap: Global, line: &'a [u8]) -> Result<Vec<&'a [u8]>, Bad>
     ensures { Reads (λ v. map (λ x. x.now) v.items) result (fields_of line.now) }
 {
-    let fields = parts(heap, line, b'\t')?;
-    if fields.iter().any(|field| field.is_empty()) {
-        return Err(Bad::NoCase);
+    let mut fields = Vec::with_capacity(heap, MOST_FIELDS)?;
+    let mut left = Some(line);
+    while left.is_some() {
+        let (text, rest) = field(left).ok_or(Bad::NoCase)?;
+        fields.push(text)?;
+        left = rest;
     }
     Ok(fields)
+}
+
+// How many fields a line has, empty ones too. A line that has other than a case's number of them is refused by this, before they are
+// collected: it may be of any length, and needs no memory.
+pub fn field_count(line: &[u8]) -> usize
+    ensures { result ≡ length (split 9 line.now) }
+{
+    line.iter().filter(|b| **b == b'\t').count() + 1
 }
 
 // The width and the quota, which may be left out.
@@ -66,19 +83,17 @@ fn case_in<'a>(heap: Global, fields: &[&'a [u8]]) -> Result<Case<'a>, Bad>
     let [id, start, cuts, fault, bytes, script, limits @ ..] = fields else {
         return Err(Bad::NoCase);
     };
+    // the numbers first: where one is no case, no list is read
     let start = decimal(start, u64::MAX).ok_or(Bad::NoCase)?;
-    let cuts = entries(heap, cuts)?;
     let fault = decimal(fault, u8::MAX as u64).ok_or(Bad::NoCase)? as u8;
-    let bytes = hex(heap, bytes)?;
-    let script = list(heap, script)?;
     let (narrow, quota) = limits_in(limits).ok_or(Bad::NoCase)?;
     Ok(Case {
         id: *id,
         start,
-        cuts,
+        cuts: entries(heap, cuts)?,
         fault,
-        bytes,
-        script,
+        bytes: hex(heap, bytes)?,
+        script: list(heap, script)?,
         narrow,
         quota,
     })
@@ -87,5 +102,8 @@ fn case_in<'a>(heap: Global, fields: &[&'a [u8]]) -> Result<Case<'a>, Bad>
 pub fn parse<'a>(heap: Global, line: &'a [u8]) -> Result<Case<'a>, Bad>
     ensures { Reads meant_case result (case_of line.now) }
 {
+    if !(LEAST_FIELDS..=MOST_FIELDS).contains(&field_count(line)) {
+        return Err(Bad::NoCase);
+    }
     case_in(heap, fields(heap, line)?.as_slice())
 }

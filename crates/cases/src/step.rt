@@ -1,8 +1,8 @@
 // An entry of a script: the calls that it makes.
-ghost use Rattle.std.specs.Prelude.{◌≡◌};
+ghost use Rattle.std.specs.Prelude.{◌≡◌, Some};
 ghost use Rattle.std.specs.Option.{option_map};
 ghost use Rattle.cases.specs.declared.step.Step.{Step};
-ghost use Rattle.cases.specs.Steps.{look_up, names, length_of, numbers_of, step_of};
+ghost use Rattle.cases.specs.Steps.{look_up, names, call_text, length_of, numbers_of, step_of};
 
 use super::bad::Bad;
 use super::words::{Word, cut_at, decimal};
@@ -34,6 +34,8 @@ pub enum Call {
 }
 
 impl fmt::Display for Call {
+    ghost output = { λ c. Some (call_text c) };
+
     fn fmt<W: fmt::Write>(&self, f: &mut fmt::Formatter<W>) -> fmt::Result {
         f.write_str(match self {
             Call::Text => "text",

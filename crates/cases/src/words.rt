@@ -1,12 +1,11 @@
 // The parts of a case's text.
-ghost use Rattle.std.specs.Prelude.{◌≡◌, ℕ, ◌<◌, ◌≤◌, List, length, map, IfOk, IfSome, vec_items, Option};
+ghost use Rattle.std.specs.Prelude.{◌≡◌, ℕ, ◌<◌, ◌≤◌, List, length, map, IfSome, vec_items, Option};
 ghost use Rattle.std.specs.Option.{option_map};
 ghost use Rattle.cases.specs.Read.{Reads};
-ghost use Rattle.cases.specs.Words.{before, behind, split, every, none_or, decimal_of, hex_byte_of, pairs_of};
+ghost use Rattle.cases.specs.Words.{before, behind, split, every, none_or, appended_of, decimal_of, hex_byte_of, pairs_of};
 
 use super::bad::Bad;
-use std::alloc::{AllocError, Global};
-use std::str;
+use std::alloc::Global;
 
 // What stands before the first `separator`, and what behind it, where there is one.
 pub fn cut_at(text: &[u8], separator: u8) -> (&[u8], Option<&[u8]>)
@@ -20,16 +19,29 @@ pub fn cut_at(text: &[u8], separator: u8) -> (&[u8], Option<&[u8]>)
     }
 }
 
-// A number in decimal digits, of which there is at least one, where it is no more than `most`.
+// A number with one more digit, where that is a digit and the number is no more than `most`.
+fn appended(number: u64, digit: u8, most: u64) -> Option<u64>
+    ensures { result ≡ appended_of most number digit }
+{
+    let digit = char::from(digit).to_digit(10)?;
+    let longer = number.checked_mul(10)?.checked_add(u64::from(digit))?;
+    (longer <= most).then_some(longer)
+}
+
+// A number in decimal digits, of which there is at least one, where it is no more than `most`. The digits are walked once: as a
+// text, which `from_str_radix` wants, they would be three times.
 pub(crate) fn decimal(digits: &[u8], most: u64) -> Option<u64>
     ensures value { result ≡ decimal_of most digits.now }
     ensures small { IfSome result (λ n. n ≤ most) }
 {
-    if !digits.iter().all(|b| b.is_ascii_digit()) {
+    if digits.is_empty() {
         return None;
     }
-    let number = u64::from_str_radix(str::from_utf8(digits).ok()?, 10).ok()?;
-    (number <= most).then_some(number)
+    let mut number = 0;
+    for digit in digits {
+        number = appended(number, *digit, most)?;
+    }
+    Some(number)
 }
 
 // The byte of two hexadecimal digits.
@@ -107,25 +119,18 @@ impl Word for Vec<u8> {
     }
 }
 
-// The parts between the separators.
-pub(crate) fn parts<'a>(
-    heap: Global,
-    text: &'a [u8],
-    separator: u8,
-) -> Result<Vec<&'a [u8]>, AllocError>
-    ensures { IfOk result (λ v. map (λ x. x.now) v.items ≡ split separator text.now) }
-{
-    text.split(|b| *b == separator).collect(heap)
-}
-
 // Words with commas between them.
 pub fn list<W: Word>(heap: Global, text: &[u8]) -> Result<Vec<W>, Bad>
     ensures { Reads (λ v. map W.view v.items) result (every W.meaning (split 44 text.now)) }
 {
     let mut all = Vec::new(heap);
-    // a `for` over the split itself gets no well-typed proof in a generic function: tried with a closure, a named test and `next`
-    for entry in parts(heap, text, b',')?.as_slice() {
-        all.push(W::read(heap, *entry)?)?;
+    let mut left = Some(text);
+    // a `for` over the split itself gets no well-typed proof in a generic function: tried with a closure, a named test and `next`;
+    // one over the parts, collected first, takes many times the memory
+    while let Some(words) = left {
+        let (word, rest) = cut_at(words, b',');
+        all.push(W::read(heap, word)?)?;
+        left = rest;
     }
     Ok(all)
 }

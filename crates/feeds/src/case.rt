@@ -4,9 +4,12 @@ ghost use Rattle.cases.specs.Read.{Reads};
 ghost use Rattle.feeds.specs.Cases.{elem_of, pi_of, comment_of, dtd_of, scanner_of, meant_case, case_of};
 
 use bang::{BangType, DtdParser};
-use cases::{Bad, fields, list};
+use cases::{Bad, field_count, fields, list};
 use parser::{CommentParser, ElementParser, PiParser};
 use std::alloc::Global;
+
+// How many fields a case has.
+const FIELDS: usize = 4;
 
 #[derive(Clone, Copy)]
 pub enum Scanner {
@@ -90,6 +93,9 @@ fn scanner_named(name: &[u8], state: &[u8]) -> Option<Scanner>
 pub fn parse<'a>(heap: Global, line: &'a [u8]) -> Result<Case<'a>, Bad>
     ensures { Reads meant_case result (case_of line.now) }
 {
+    if field_count(line) != FIELDS {
+        return Err(Bad::NoCase);
+    }
     let fields = fields(heap, line)?;
     let [id, name, state, runs] = fields.as_slice() else {
         return Err(Bad::NoCase);

@@ -8,13 +8,19 @@ use std::io::Write;
 // What each byte of a buffer is before a call.
 pub(crate) const BLANK: u8 = 0xaa;
 
-// Bytes as pairs of hexadecimal digits; `-` for none.
+// A hexadecimal digit, in lower case.
+fn digit(n: u8) -> u8 {
+    b"0123456789abcdef"[n as usize % 16]
+}
+
+// Bytes as pairs of hexadecimal digits; `-` for none. The digits are pushed: to format each byte takes several times as long.
 fn write_hex(lines: &mut Vec<u8>, bytes: &[u8]) -> io::Result<()> {
     if bytes.is_empty() {
         lines.push(b'-')?;
     }
     for b in bytes {
-        write!(lines, "{b:02x}")?;
+        lines.push(digit(*b / 16))?;
+        lines.push(digit(*b % 16))?;
     }
     Ok(())
 }

@@ -1,18 +1,19 @@
-use Rattle.std.proofs.Common.{◌==◌, length, map, cond, Some, None, ap, ◌∙◌, rules}
-use borrow.Author.Tests.{tests}
-use Rattle.std.proofs.lemmas.Iterator.{YieldsList-from_slice}
-use Rattle.std.proofs.lemmas.Iterator.Search.{any_from_yields_List}
-use Rattle.cases.proofs.Filled.{fields_are}
+use Rattle.std.proofs.Common.{◌≡◌, Some, None, vec_items, sym, ap, ◌∙◌, subst, arith}
+use Rattle.std.specs.Option.{option_map}
+use Rattle.cases.proofs.Filled.{FieldTurn, field_next, field_refused, field_whole}
 use Rattle.cases.proofs.case.fields.Goals as goal
 
-pub returns-then-any : goal.returns-then-any
-returns-then-any c =
-    let parts = c.in_ok-fields.fields.items in
-    let any = any_from_yields_List (λ f. length f.now == 0) _ _ _ c.any.ensures.ran (YieldsList-from_slice parts (c.iter.ensures.rest ∙ c.deref.ensures.value)) (λ x b q k. search (rules, tests)) in
-    fields_are c.args.line.now parts _ c.in_ok-fields.ensures any ∙ ap (λ b. cond b None (Some (map (λ x. x.now) parts))) c.if-any.true
+pub returns-in_err-text : goal.returns-in_err-text
+returns-in_err-text c =
+    let none : c.field.result ≡ None = grind arith in
+    let refused = field_refused c.args.line.now c.loop-left.left (vec_items c.loop-left.fields) c.loop-left.invariant (sym c.is_some.ensures ∙ c.loop-left-test.true) (sym (ap (option_map (λ f. (f.0.now, option_map (λ x. x.now) f.1))) none) ∙ c.field.ensures) in
+    grind arith
+
+pub loop-left-preserved : goal.loop-left-preserved
+loop-left-preserved c =
+    let some : c.field.result ≡ Some (c.in_ok-text.text, c.in_ok-text.rest) = grind arith in
+    subst (FieldTurn c.args.line.now c.in_ok-text.rest) (sym c.in_ok-push.ensures.items)
+    (field_next c.args.line.now c.loop-left.left (vec_items c.loop-left.fields) c.loop-left.invariant c.in_ok-text.text c.in_ok-text.rest (sym (ap (option_map (λ f. (f.0.now, option_map (λ x. x.now) f.1))) some) ∙ c.field.ensures))
 
 pub returns : goal.returns
-returns c =
-    let parts = c.in_ok-fields.fields.items in
-    let any = any_from_yields_List (λ f. length f.now == 0) _ _ _ c.any.ensures.ran (YieldsList-from_slice parts (c.iter.ensures.rest ∙ c.deref.ensures.value)) (λ x b q k. search (rules, tests)) in
-    fields_are c.args.line.now parts _ c.in_ok-fields.ensures any ∙ ap (λ b. cond b None (Some (map (λ x. x.now) parts))) c.if-any.false
+returns c = field_whole c.args.line.now c.loop-left.left (vec_items c.loop-left.fields) c.loop-left.invariant (sym c.is_some.ensures ∙ c.loop-left-test.false)
