@@ -1,12 +1,16 @@
 -- The fields of a line.
-use Rattle.std.proofs.Common.{◌≡◌, ℕ, ◌==◌, Bool, true, false, ◌||◌, cond, List, [], ◌∷◌, ◌++◌, map, length, ◌<◌, Some, None, Option, is_some, refl, sym, ap, ◌∙◌, arith, Bor}
+use Rattle.std.proofs.Common.{◌≡◌, ℕ, ◌+◌, ◌<◌, ◌≤◌, ◌==◌, Bool, true, false, ◌||◌, cond, List, [], ◌∷◌, ◌++◌, map, length, Some, None, Option, is_some, refl, sym, ap, ◌∙◌, append_assoc, length-append, arith, Bor}
 use Rattle.std.specs.List.{list_any}
 use Rattle.std.specs.Option.{option_map}
-use Rattle.std.proofs.lemmas.Bool.{ne_eqb}
-use Rattle.cases.proofs.Lists.{ListTurn, list_next, list_refused, list_whole}
-use Rattle.cases.specs.Cases.{Meant, case_in}
-use Rattle.cases.specs.Fields.{filled, field_of, fields_of}
-use Rattle.cases.specs.Words.{before, behind, bound, split, every, decimal_of}
+use Rattle.std.proofs.lemmas.Bool.{ne_eqb, le-leb, lt-leb}
+use Rattle.std.proofs.lemmas.List.{length-map, map_push}
+use Rattle.std.proofs.lemmas.List.Splits.{length-slice_split}
+use Rattle.std.proofs.lemmas.List.Sums.{count_by-le-length}
+use Rattle.cases.proofs.Lists.{ListTurn, list_start, list_next, list_refused, list_whole}
+use Rattle.cases.proofs.Parts.{parts, split_cut}
+use Rattle.cases.specs.Cases.{case_in}
+use Rattle.cases.specs.Fields.{filled, field_of, fields_of, few}
+use Rattle.cases.specs.Words.{before, behind, bound, split, every}
 
 -- a field that is not empty
 abbrev pub filled_in : List ℕ → Option (List ℕ)
@@ -40,6 +44,10 @@ not_found : (text : List ℕ) (more : Option (List ℕ)) → None ≡ filled tex
 not_found [] more e = refl
 not_found (b ∷ bs) more e = cc
 
+filled_same : (text front : List ℕ) → filled_in text ≡ Some front → text ≡ front
+filled_same [] front e = cc
+filled_same (b ∷ bs) front e = cc
+
 -- the fields before `left` are taken
 module _ (line : List ℕ) where
   abbrev pub FieldTurn : Option (Bor (List ℕ)) → List (Bor (List ℕ)) → Type 0
@@ -67,23 +75,76 @@ module _ (line : List ℕ) where
         go None t h = list_whole 9 (λ x. x.now) filled_in line done t
         go (Some r) t h = cc
 
--- the fields of a case are eight at the most
-pub too_many : (fields : List (List ℕ)) → 8 < length fields → case_in fields ≡ None
-too_many [] h = absurd (omega arith)
-too_many (a ∷ []) h = absurd (omega arith)
-too_many (a ∷ b ∷ []) h = absurd (omega arith)
-too_many (a ∷ b ∷ c ∷ []) h = absurd (omega arith)
-too_many (a ∷ b ∷ c ∷ d ∷ []) h = absurd (omega arith)
-too_many (a ∷ b ∷ c ∷ d ∷ e ∷ []) h = absurd (omega arith)
-too_many (a ∷ b ∷ c ∷ d ∷ e ∷ f ∷ []) h = absurd (omega arith)
-too_many (a ∷ b ∷ c ∷ d ∷ e ∷ f ∷ g ∷ []) h = absurd (omega arith)
-too_many (a ∷ b ∷ c ∷ d ∷ e ∷ f ∷ g ∷ i ∷ []) h = absurd (omega arith)
-too_many (a ∷ b ∷ c ∷ d ∷ e ∷ f ∷ g ∷ i ∷ j ∷ limits) h = go (decimal_of 18446744073709551615 b) (decimal_of 255 d)
+-- the fields before `left` are taken, no more than `most`
+pub record FewTurn (line : List ℕ) (most : ℕ) (left : Option (Bor (List ℕ))) (done : List (Bor (List ℕ))) : Type 0 where
+  pub reads : FieldTurn line left done
+  pub cut : split 9 line ≡ map (λ x. x.now) done ++ parts 9 (option_map (λ x. x.now) left)
+  pub small : length done ≤ most
+
+pub few_start : (line : Bor (List ℕ)) (most : ℕ) → FewTurn line.now most (Some line) []
+few_start line most = record { reads = list_start 9 (λ (x : Bor (List ℕ)). x.now) filled_in line.now line refl; cut = refl; small = omega arith }
+
+few_is : (most : ℕ) (fields : List (List ℕ)) → length fields ≤ most → few most fields ≡ Some fields
+few_is most fields h = ap (λ b. cond b (Some fields) None) (le-leb (length fields) most h)
+
+module _ (line : List ℕ) (most : ℕ) (left : Option (Bor (List ℕ))) (done : List (Bor (List ℕ))) (t : FewTurn line most left done) where
+  pub few_next : length done < most → (text : Bor (List ℕ)) (rest : Option (Bor (List ℕ))) → Some (text.now, option_map (λ x. x.now) rest) ≡ field_of (option_map (λ x. x.now) left) → FewTurn line most rest (done ++ (text ∷ []))
+  few_next h text rest e = record {
+    reads = field_next line left done t.reads text rest e;
+    cut = t.cut ∙ go left e;
+    small = (let n = length-append done (text ∷ []) in omega arith);
+  }
+    where
+      go : (left : Option (Bor (List ℕ))) → Some (text.now, option_map (λ x. x.now) rest) ≡ field_of (option_map (λ x. x.now) left) → (map (λ x. x.now) done ++ parts 9 (option_map (λ x. x.now) left)) ≡ (map (λ x. x.now) (done ++ (text ∷ [])) ++ parts 9 (option_map (λ x. x.now) rest))
+      go None e = cc
+      go (Some r) e =
+          let f = found (before 9 r.now) text.now (option_map (λ x. x.now) rest) (behind 9 r.now) e in
+          let same : before 9 r.now ≡ text.now = filled_same (before 9 r.now) text.now f.0 in
+          ap (λ ws. map (λ x. x.now) done ++ ws) (split_cut 9 r.now)
+          ∙ ap (λ ws. map (λ x. x.now) done ++ (ws ∷ parts 9 (behind 9 r.now))) same
+          ∙ ap (λ o. map (λ x. x.now) done ++ (text.now ∷ parts 9 o)) (sym f.1)
+          ∙ sym (append_assoc (map (λ x. x.now) done) (text.now ∷ []) (parts 9 (option_map (λ x. x.now) rest)))
+          ∙ ap (λ ws. ws ++ parts 9 (option_map (λ x. x.now) rest)) (sym (map_push (λ x. x.now) done text))
+
+  pub few_refused : is_some left ≡ true → None ≡ field_of (option_map (λ x. x.now) left) → bound (fields_of line) (few most) ≡ None
+  few_refused h e = ap (λ o. bound o (few most)) (field_refused line left done t.reads h e)
+
+  pub few_over : is_some left ≡ true → most ≤ length done → bound (fields_of line) (few most) ≡ None
+  few_over h e = go (list_any (λ field. length field == 0) (split 9 line))
+    where
+      longer : (left : Option (Bor (List ℕ))) → is_some left ≡ true → split 9 line ≡ map (λ x. x.now) done ++ parts 9 (option_map (λ x. x.now) left) → most < length (split 9 line)
+      longer None h c = cc
+      longer (Some r) h c =
+          let n = length-append (map (λ x. x.now) done) (split 9 r.now) in
+          let m = length-map done (λ x. x.now) in
+          let k = length-slice_split (λ b. b == 9) r.now in
+          omega (arith, ap length c)
+
+      none : few most (split 9 line) ≡ None
+      none = ap (λ b. cond b (Some (split 9 line)) None) (lt-leb (length (split 9 line)) most (longer left h t.cut))
+
+      go : (v : Bool) → bound (cond v None (Some (split 9 line))) (few most) ≡ None
+      go true = refl
+      go false = none
+
+  pub few_whole : is_some left ≡ false → bound (fields_of line) (few most) ≡ Some (map (λ x. x.now) done)
+  few_whole h =
+      ap (λ o. bound o (few most)) (field_whole line left done t.reads h)
+      ∙ few_is most (map (λ x. x.now) done) (let m = length-map done (λ x. x.now) in omega (arith, t.small))
+
+-- a line has no more fields than bytes and one
+pub few_all : (line : List ℕ) (most : ℕ) → length line + 1 ≤ most → bound (fields_of line) (few most) ≡ fields_of line
+few_all line most h = go (list_any (λ field. length field == 0) (split 9 line))
   where
-    go : (start fault : Option ℕ) → bound {B = Meant} start (λ s. bound fault (λ n. None)) ≡ None
-    go None fault = refl
-    go (Some s) None = refl
-    go (Some s) (Some n) = refl
+    all : few most (split 9 line) ≡ Some (split 9 line)
+    all =
+        let k = length-slice_split (λ b. b == 9) line in
+        let n = count_by-le-length (λ b. b == 9) line in
+        few_is most (split 9 line) (omega arith)
+
+    go : (v : Bool) → bound (cond v None (Some (split 9 line))) (few most) ≡ cond v None (Some (split 9 line))
+    go true = refl
+    go false = all
 
 pub too_few : (fields : List (Bor (List ℕ))) → length fields < 6 → case_in (map (λ x. x.now) fields) ≡ None
 too_few [] h = refl

@@ -1,19 +1,17 @@
 // A case: what the reader stands on, and the calls that are made.
-ghost use Rattle.std.specs.Prelude.{◌≡◌, map, length};
+ghost use Rattle.std.specs.Prelude.{◌≡◌, map};
 ghost use Rattle.cases.specs.Cases.{meant_case, case_in, case_of};
 ghost use Rattle.std.specs.Option.{option_map};
-ghost use Rattle.cases.specs.Fields.{field_of, fields_of, limits_of};
+ghost use Rattle.cases.specs.Fields.{field_of, fields_of, few, limits_of};
 ghost use Rattle.cases.specs.Read.{Reads};
-ghost use Rattle.cases.specs.Words.{split};
+ghost use Rattle.cases.specs.Words.{bound};
 
 use super::bad::Bad;
 use super::step::Step;
 use super::words::{cut_at, decimal, entries, hex, list};
 use std::alloc::Global;
 
-// How many fields a case has.
-const LEAST_FIELDS: usize = 6;
-
+// How many fields a case has at most.
 const MOST_FIELDS: usize = 8;
 
 #[derive(Drop)]
@@ -43,22 +41,25 @@ pub fn field(line: Option<&[u8]>) -> Option<(&[u8], Option<&[u8]>)>
 pub fn fields<'a>(heap: Global, line: &'a [u8]) -> Result<Vec<&'a [u8]>, Bad>
     ensures { Reads (λ v. map (λ x. x.now) v.items) result (fields_of line.now) }
 {
+    fields_up_to(heap, line, line.len() + 1)
+}
+
+// The same, where there are no more than `most`: a line may be of any length, and no more of it is walked, and no more memory taken,
+// than tells that it is no case.
+pub fn fields_up_to<'a>(heap: Global, line: &'a [u8], most: usize) -> Result<Vec<&'a [u8]>, Bad>
+    ensures { Reads (λ v. map (λ x. x.now) v.items) result (bound (fields_of line.now) (few most)) }
+{
     let mut fields = Vec::with_capacity(heap, MOST_FIELDS)?;
     let mut left = Some(line);
     while left.is_some() {
+        if fields.len() == most {
+            return Err(Bad::NoCase);
+        }
         let (text, rest) = field(left).ok_or(Bad::NoCase)?;
         fields.push(text)?;
         left = rest;
     }
     Ok(fields)
-}
-
-// How many fields a line has, empty ones too. A line that has other than a case's number of them is refused by this, before they are
-// collected: it may be of any length, and needs no memory.
-pub fn field_count(line: &[u8]) -> usize
-    ensures { result ≡ length (split 9 line.now) }
-{
-    line.iter().filter(|b| **b == b'\t').count() + 1
 }
 
 // The width and the quota, which may be left out.
@@ -102,8 +103,5 @@ fn case_in<'a>(heap: Global, fields: &[&'a [u8]]) -> Result<Case<'a>, Bad>
 pub fn parse<'a>(heap: Global, line: &'a [u8]) -> Result<Case<'a>, Bad>
     ensures { Reads meant_case result (case_of line.now) }
 {
-    if !(LEAST_FIELDS..=MOST_FIELDS).contains(&field_count(line)) {
-        return Err(Bad::NoCase);
-    }
-    case_in(heap, fields(heap, line)?.as_slice())
+    case_in(heap, fields_up_to(heap, line, MOST_FIELDS)?.as_slice())
 }

@@ -9,7 +9,7 @@ mod step;
 mod words;
 
 pub use bad::Bad;
-pub use case::{Case, field, field_count, fields, parse};
+pub use case::{Case, field, fields, fields_up_to, parse};
 pub use line::{case_line, write_bad};
 pub use lines::answer_lines;
 pub use step::{Call, LONGEST, Spending, Step};

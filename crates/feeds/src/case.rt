@@ -1,10 +1,10 @@
 // A case: a scanner in one of its states, and the runs that it is fed.
-ghost use Rattle.std.specs.Prelude.{◌≡◌};
+ghost use Rattle.std.specs.Prelude.{◌≡◌, map};
 ghost use Rattle.cases.specs.Read.{Reads};
-ghost use Rattle.feeds.specs.Cases.{elem_of, pi_of, comment_of, dtd_of, scanner_of, meant_case, case_of};
+ghost use Rattle.feeds.specs.Cases.{elem_of, pi_of, comment_of, dtd_of, scanner_of, meant_case, case_in, case_of};
 
 use bang::{BangType, DtdParser};
-use cases::{Bad, field_count, fields, list};
+use cases::{Bad, fields_up_to, list};
 use parser::{CommentParser, ElementParser, PiParser};
 use std::alloc::Global;
 
@@ -90,14 +90,10 @@ fn scanner_named(name: &[u8], state: &[u8]) -> Option<Scanner>
     }
 }
 
-pub fn parse<'a>(heap: Global, line: &'a [u8]) -> Result<Case<'a>, Bad>
-    ensures { Reads meant_case result (case_of line.now) }
+fn case_in<'a>(heap: Global, fields: &[&'a [u8]]) -> Result<Case<'a>, Bad>
+    ensures { Reads meant_case result (case_in (map (λ x. x.now) fields.now)) }
 {
-    if field_count(line) != FIELDS {
-        return Err(Bad::NoCase);
-    }
-    let fields = fields(heap, line)?;
-    let [id, name, state, runs] = fields.as_slice() else {
+    let [id, name, state, runs] = fields else {
         return Err(Bad::NoCase);
     };
     Ok(Case {
@@ -105,4 +101,10 @@ pub fn parse<'a>(heap: Global, line: &'a [u8]) -> Result<Case<'a>, Bad>
         scanner: scanner_named(name, state).ok_or(Bad::NoCase)?,
         runs: list(heap, runs)?,
     })
+}
+
+pub fn parse<'a>(heap: Global, line: &'a [u8]) -> Result<Case<'a>, Bad>
+    ensures { Reads meant_case result (case_of line.now) }
+{
+    case_in(heap, fields_up_to(heap, line, FIELDS)?.as_slice())
 }
